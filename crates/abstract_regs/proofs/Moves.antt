@@ -1,13 +1,13 @@
 -- An address that is moved stays in its range.
 use Rattle.std.proofs.Common.{◌≡◌, ◌≤◌, true, Some, pos, neg_ℤ, ◌+ℤ◌, ◌≤ℤ◌, ℤ, arith, FitsSigned}
-use Rattle.std.proofs.{lemmas.Bool.and_parts, lemmas.Bool.and_from, lemmas.Int.ints, lemmas.Int.to_z-of_z}
+use Rattle.std.proofs.{lemmas.Bool.and_parts, lemmas.Int.ints, lemmas.Int.to_z-of_z}
 use Rattle.std.specs.Int.{w64, cast_signed, cast_unsigned}
 use Rattle.machine_spec.specs.declared.{operation.Operation.Operation, instruction.Region.Region}
 use Rattle.verifier_spec.specs.{declared.interval.Interval.Interval, Kinds.is_proper_kind, Kinds.furthest}
 use Rattle.verifier_spec.specs.Transfer.{moved_address}
 use Rattle.verifier_spec.specs.declared.state.Abs.TheVariants as abs
 use Rattle.verifier_spec.specs.Checks.{least_displacement, greatest_displacement, can_move}
-use Rattle.verifier_spec.proofs.{Proper.addr_order, Sums.moved_proper, Whole.le_z-true, Whole.le-le_z}
+use Rattle.verifier_spec.proofs.{Proper.addr_order, Sums.moved_proper, Whole.le_z-true}
 
 -- the ends of an address after a move
 pub record Bounds (operation : Operation) (low high : ℤ) (range : Interval) : Type 0 where
@@ -37,6 +37,4 @@ pub ends_proper : (region : Region) (low high : ℤ) → neg_ℤ (pos furthest) 
 ends_proper region low high from order to =
     let first : FitsSigned w64 low = omega (arith, ints) in
     let last : FitsSigned w64 high = omega (arith, ints) in
-    rw (to_z-of_z w64 low first, to_z-of_z w64 high last)
-    (and_from _ _ (le-le_z (neg_ℤ (pos furthest)) low from)
-    (and_from _ _ (le-le_z low high order) (le-le_z high (pos furthest) to)))
+    rw (to_z-of_z w64 low first, to_z-of_z w64 high last) (grind (arith, ints))

@@ -24,6 +24,7 @@ fn negate(width: Width, a: u64) -> u64
     }
 }
 
+#[inline(always)]
 fn put_in_order(byte_order: ByteOrder, width: SwappedWidth, a: u64) -> u64
     ensures { result ≡ number_in_order byte_order width a }
 {
@@ -34,6 +35,7 @@ fn put_in_order(byte_order: ByteOrder, width: SwappedWidth, a: u64) -> u64
     }
 }
 
+#[inline(always)]
 fn sign_extend(width: Width, part: ExtendedWidth, a: u64) -> u64
     ensures { result ≡ changed_number (Change.SignExtend width part) a }
 {
@@ -44,6 +46,7 @@ fn sign_extend(width: Width, part: ExtendedWidth, a: u64) -> u64
 }
 
 /// A change of one number (RFC 9669, sections 4.1 and 4.2).
+#[inline(always)]
 pub fn change(change: Change, a: u64) -> u64
     ensures { result ≡ changed_number change a }
 {

@@ -1,13 +1,14 @@
 -- What a feed gives of its bytes, which are in two parts, by what is cut off the first.
 use Rattle.std.proofs.Common.{◌≡◌, ◌≢◌, ℕ, List, [], ◌∷◌, ◌++◌, length, take, drop, Ok, Err, true, false, refl, sym, ap}
 use Rattle.std.proofs.Common.{subst, ◌∙◌, arith, ◌↔◌, Some, None}
-use Rattle.std.proofs.lemmas.List.{drop-append-le, append-nil}
+use Rattle.std.proofs.lemmas.List.{drop-append-le, take-append-le, append-nil}
 use Rattle.wire_spec.specs.declared.{fault.BatchFault.BatchFault, record.Batch.Batch}
+use Rattle.wire_spec.specs.declared.fault.BatchFault.TheVariants as faults
 use Rattle.wire_spec.specs.declared.fault.BatchFault.TheVariants.{Memory}
 use Rattle.wire_spec.specs.BatchReading.{◌>>=◌, size_at, whole_at, IsPart, batch_at}
 use Rattle.wire_spec.proofs.MoreBytes.{batch_at-part, batch_at-append, batch_at-not_short}
 use Rattle.wire_spec.proofs.BatchLaws.{Sized, bind_ok, ok_is, size_taken}
-use Rattle.batch.specs.Streams.{Stream, Open, after_fault, IsRefusal, Gives, Cuts, IsReady}
+use Rattle.batch.specs.Streams.{Stream, Open, kept_bytes, after_fault, IsRefusal, Gives, Cuts, IsReady}
 
 -- a batch takes its header at least, and no more bytes than there are
 pub batch_at-taken : (bytes : List ℕ) (batch : Batch) (used : ℕ) → batch_at bytes ≡ Ok (batch, used) → Sized bytes used
@@ -29,11 +30,15 @@ gives_none old new ready next old_is new_is part =
 
 pub gives_batch : (old after : Stream) (ready next new : List ℕ) (batch : Batch) → old ≡ Open (ready ++ next) →
     after ≡ Open (new ++ next) → IsReady true ready next → Cuts ready (Ok batch) new → Gives old (Ok (Some batch)) after
-gives_batch old after ready next new batch old_is after_is whole (used, within, found, new_is) =
+gives_batch old after ready next new batch old_is after_is whole (used, within, found, spelled, new_is) =
     let rest : new ++ next ≡ drop used (ready ++ next) = ap (λ (front : List ℕ). front ++ next) new_is
     ∙ sym (drop-append-le used ready next within) in
-    subst (λ (s : Stream). Gives s (Ok (Some batch)) after) (sym old_is)
-    (used, batch_at-append ready next whole ∙ found, after_is ∙ ap (λ (bytes : List ℕ). Open bytes) rest)
+    subst (λ (s : Stream). Gives s (Ok (Some batch)) after) (sym old_is) (
+      used,
+      batch_at-append ready next whole ∙ found,
+      take-append-le used ready next within ∙ spelled,
+      after_is ∙ ap (λ (bytes : List ℕ). Open bytes) rest,
+    )
 
 pub gives_refusal : (old after : Stream) (ready next new : List ℕ) (fault : BatchFault) → old ≡ Open (ready ++ next) →
     after ≡ after_fault (Open (new ++ next)) fault → IsReady true ready next → Cuts ready (Err fault) new →
@@ -50,7 +55,24 @@ none_of [] [] = (λ e. (refl, refl), λ e. refl)
 none_of [] (byte ∷ next) = (λ e. absurd cc, λ e. absurd cc)
 none_of (byte ∷ ready) next = (λ e. absurd cc, λ e. absurd cc)
 
+-- bytes with nothing after them
+pub alone : (ready : List ℕ) → Open (ready ++ []) ≡ Open ready
+alone ready = ap (λ (bytes : List ℕ). Open bytes) (append-nil ready)
+
 -- a part of a batch with nothing after it
 pub part_alone : (ready next : List ℕ) → length next ≡ 0 → IsPart ready → IsPart (ready ++ next)
 part_alone ready [] none part = subst IsPart (sym (append-nil ready)) part
 part_alone ready (byte ∷ next) none part = absurd (omega arith)
+
+-- a fault leaves all bytes
+pub kept_after : (bytes : List ℕ) (fault : BatchFault) → kept_bytes (after_fault (Open bytes) fault) ≡ bytes
+kept_after bytes faults.Short = refl
+kept_after bytes faults.Length = refl
+kept_after bytes faults.TooLarge = refl
+kept_after bytes faults.Magic = refl
+kept_after bytes faults.Crc = refl
+kept_after bytes faults.Attributes = refl
+kept_after bytes faults.Count = refl
+kept_after bytes (faults.Record number) = refl
+kept_after bytes faults.Timestamp = refl
+kept_after bytes faults.Memory = refl

@@ -1,7 +1,8 @@
 -- Batches whose records are spans of their bytes.
-use Rattle.std.specs.Prelude.{◌≡◌, ℕ, ◌<◌, List, [], ◌∷◌, length, get_or, map, ⊤}
+use Rattle.std.specs.Prelude.{◌≡◌, ℕ, ◌<◌, ◌≤◌, List, [], ◌∷◌, length, get_or, map, ⊤}
 use Rattle.wire_spec.specs.declared.{record.Header.Header, record.Record.Record, record.Batch.Batch}
 use Rattle.kafka_record.specs.Spans.{spanned, IsSpanOf}
+use Rattle.wire_spec.specs.BatchSpelling.{BatchFits, batch_spelling}
 use Rattle.wire_spec.specs.BatchReading.{base_offset, leader_epoch, base_timestamp, producer_id, producer_epoch}
 use Rattle.wire_spec.specs.BatchReading.{base_sequence}
 use Rattle.batch.specs.declared.{packed.Head.Head, packed.Entry.Entry}
@@ -40,6 +41,12 @@ headed head records = record {
   base_sequence = head.base_sequence;
   records = records;
 }
+
+-- the bytes are a batch's, all of them
+pub record IsWhole (bytes : List ℕ) (batch : Batch) : Type 0 where
+  pub fits : BatchFits batch
+  pub long : 61 ≤ length bytes
+  pub spelled : bytes ≡ batch_spelling batch
 
 -- these are the fields of the header at the front of the bytes
 pub record IsHeadOf (bytes : List ℕ) (head : Head) : Type 0 where

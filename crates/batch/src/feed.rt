@@ -4,7 +4,7 @@ ghost use Rattle.std.specs.Prelude.{◌≡◌, ◌≢◌, ◌↔◌, [], ◌++�
 ghost use Rattle.wire_spec.specs.declared.fault.BatchFault.TheVariants.{Short};
 ghost use Rattle.wire_spec.specs.BatchReading.{IsPart};
 ghost use Rattle.wire_spec.specs.BatchSpelling.{BatchFits};
-ghost use Rattle.batch.specs.Streams.{Open, pending_bytes, with_piece, after_fault, Gives, Cuts, IsReady};
+ghost use Rattle.batch.specs.Streams.{Open, pending_bytes, kept_bytes, with_piece, after_fault, Gives, Cuts, IsReady};
 
 use crate::fields::i32_at;
 use crate::limits::FRONT;
@@ -16,8 +16,8 @@ use std::marker::Model;
 use std::mem;
 use wire_spec::{Batch, BatchFault, MAX_BATCH};
 
-/// The bytes that were fed of a stream of record batches and not given yet. Contracts see those, or
-/// the fault that ended the stream.
+/// The bytes that were fed of a stream of record batches and not given yet. Contracts see those, and
+/// the fault that ended the stream at them, if one did.
 #[derive(Drop)]
 pub struct Feed {
     alloc: Global,
@@ -49,7 +49,21 @@ impl Feed {
         }
     }
 
-    /// Whether no byte is kept: every one that was fed was given, or a fault ended the stream.
+    /// A stream of which these bytes were fed. Batches are cut from them, without a copy.
+    #[tactic(auto, using(crate::proofs::FeedLaws::alone))]
+    pub fn of(alloc: Global, bytes: Bytes) -> Feed
+        ensures { result ≡ Open bytes }
+    {
+        Feed {
+            alloc,
+            ready: bytes,
+            next: Vec::new(alloc),
+            fault: None,
+        }
+    }
+
+    /// Whether there is no byte to cut a batch from: every one that was fed was given, or a fault ended the
+    /// stream.
     #[tactic(auto, using(crate::proofs::FeedLaws::none_of))]
     pub fn is_empty(&self) -> bool
         ensures { IsTrue result ↔ (pending_bytes self.now ≡ []) }
@@ -57,7 +71,7 @@ impl Feed {
         self.fault.is_some() || (self.ready.is_empty() && self.next.is_empty())
     }
 
-    /// How many bytes are kept: none, where a fault ended the stream.
+    /// How many bytes there are to cut batches from: none, where a fault ended the stream.
     pub fn len(&self) -> usize
         ensures { result ≡ length (pending_bytes self.now) }
     {
@@ -67,9 +81,17 @@ impl Feed {
         self.ready.len() + self.next.len()
     }
 
+    /// The bytes that were fed and not given yet, or those at which a fault ended the stream. It fails only
+    /// where memory runs out.
+    pub fn kept(&self) -> Result<Vec<u8>, AllocError>
+        ensures { IfOk result (λ bytes. bytes.items ≡ kept_bytes self.now) }
+    {
+        joined(self.alloc, &self.ready, &self.next)
+    }
+
     /// Takes a piece of the stream: the bytes after those that were fed before. Its bytes are
     /// copied once, and those of a batch that goes on in a later piece once more. A stream that a
-    /// fault ended keeps none. It fails only where memory runs out; an `Err` changes nothing.
+    /// fault ended takes none. It fails only where memory runs out; an `Err` changes nothing.
     pub fn feed(&mut self, piece: &[u8]) -> Result<(), AllocError>
         ensures ok { OnOk result (self.new ≡ with_piece self.old piece.now) }
         ensures err { OnErr result (self.new ≡ self.old) }
@@ -123,7 +145,7 @@ impl Feed {
         }
     }
 
-    // Ends the stream with a fault, unless memory ran out.
+    // Ends the stream with a fault, unless memory ran out. The bytes stay.
     fn refuse(&mut self, fault: BatchFault) -> BatchFault
         ensures fault { result ≡ fault }
         ensures new { self.new ≡ after_fault self.old fault }
@@ -131,8 +153,6 @@ impl Feed {
         match fault {
             BatchFault::Memory => fault,
             _ => {
-                self.ready = Bytes::new();
-                self.next = Vec::new(self.alloc);
                 self.fault = Some(fault);
                 fault
             }

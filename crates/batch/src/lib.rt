@@ -11,9 +11,10 @@ mod times;
 mod writing;
 
 pub use feed::Feed;
-pub use limits::{HEADER, fits, record_len};
+pub use fields::{i16_at, i32_at, i64_at, u16_at, u32_at};
+pub use limits::{FRONT, HEADER, fits, record_len};
 pub use packed::{PackedBatch, decode_packed};
-pub use reading::{decode, one_spelling};
+pub use reading::{batch_size, decode, one_spelling};
 pub use sharing::share;
 pub use wire_spec::{Batch, BatchFault, Headers, MAX_BATCH, MAX_RECORDS, Records};
 pub use writing::{begin, encode, finish};

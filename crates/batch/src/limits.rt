@@ -7,7 +7,7 @@ use crate::times::{base_of, is_timestamp, latest};
 use wire_spec::{Batch, MAX_BATCH, MAX_RECORD_SIZE, MAX_RECORDS, Record};
 
 /// The bytes up to the end of batchLength, which it does not count.
-pub(crate) const FRONT: usize = 12;
+pub const FRONT: usize = 12;
 
 /// The bytes of the header, before the records.
 pub const HEADER: usize = 61;

@@ -10,7 +10,7 @@ ghost use Rattle.wire_spec.specs.BatchReading.{is_mistimed, record_or, records_a
 ghost use Rattle.wire_spec.specs.Memory.{AnswersAs};
 ghost use Rattle.wire_spec.specs.declared.limits.TheConstants.{MAX_RECORDS};
 ghost use Rattle.kafka_record.specs.Spans.{spanned, IsSpanOf};
-ghost use Rattle.batch.specs.Packed.{entry_record, entry_records, IsEntryOf, AreEntriesOf, IsListed, IsHeadOf};
+ghost use Rattle.batch.specs.Packed.{entry_record, entry_records, IsEntryOf, AreEntriesOf, IsListed, IsHeadOf, IsWhole};
 
 use crate::fields::{i16_at, i32_at, i64_at};
 use crate::limits::HEADER;
@@ -53,13 +53,14 @@ pub struct PackedBatch {
 
 impl Model for PackedBatch {
     ghost use Rattle.wire_spec.specs.declared.record.Batch.{Batch};
-    ghost use Rattle.batch.specs.Packed.{entry_records, headed, AreEntriesOf};
+    ghost use Rattle.batch.specs.Packed.{entry_records, headed, AreEntriesOf, IsWhole};
 
     ghost Value = { Batch };
 
     ghost view = { λ b. headed b.head (entry_records b.bytes b.headers.items b.entries.items) };
 
-    ghost invariant = { λ b. AreEntriesOf b.bytes b.headers.items b.entries.items };
+    ghost invariant = { λ b. AreEntriesOf b.bytes b.headers.items b.entries.items
+        × IsWhole b.bytes (headed b.head (entry_records b.bytes b.headers.items b.entries.items)) };
 }
 
 impl PackedBatch {
@@ -75,6 +76,13 @@ impl PackedBatch {
         ensures { result ≡ self.now.base_timestamp }
     {
         self.head.base_timestamp
+    }
+
+    /// The batch's bytes, all of them.
+    pub fn bytes(&self) -> &Bytes
+        ensures { IsWhole result.now self.now }
+    {
+        &self.bytes
     }
 
     /// The record with a number, from 0.
@@ -243,6 +251,7 @@ fn head_of(bytes: &[u8]) -> Head
 fn timed_of(bytes: Bytes, entries: Entries) -> Result<PackedBatch, BatchFault>
     requires header { 61 ≤ length bytes }
     requires within { AreEntriesOf bytes entries.headers.items entries.list.items }
+    requires whole { (b : BatchIs) → timed_at bytes (entry_records bytes entries.headers.items entries.list.items) ≡ Ok b → IsWhole bytes b }
     ensures { result ≡ timed_at bytes (entry_records bytes entries.headers.items entries.list.items) }
 {
     let slice = bytes.as_slice();
@@ -264,6 +273,7 @@ fn timed_of(bytes: Bytes, entries: Entries) -> Result<PackedBatch, BatchFault>
 fn whole_of(alloc: Global, bytes: Bytes) -> Result<PackedBatch, BatchFault>
     requires header { 61 ≤ length bytes }
     requires size { length bytes < 2 ^ 32 }
+    requires whole { (b : BatchIs) → whole_at bytes ≡ Ok b → IsWhole bytes b }
     ensures { AnswersAs Memory (λ b. b) result (whole_at bytes) }
 {
     let count = count_of(&bytes)?;

@@ -28,9 +28,10 @@ fn with_front_of(length: i32) -> usize
     length as usize + FRONT
 }
 
-/// How many bytes the batch at the front takes.
+/// How many bytes the batch at the front takes, by its length, or why none is there by that: it fails with
+/// `Length`, `TooLarge`, or `Short` where more bytes may make a part of a batch whole.
 #[tactic(auto, unfolding(wire_spec::specs::BatchReading::size_at))]
-pub(crate) fn batch_size(bytes: &[u8]) -> Result<usize, BatchFault>
+pub fn batch_size(bytes: &[u8]) -> Result<usize, BatchFault>
     ensures gives { result ≡ size_at bytes.now }
     ensures within { IfOk result (λ n. (61 ≤ n) × (n ≤ length bytes.now)) }
     ensures small { IfOk result (λ n. n ≤ MAX_BATCH) }

@@ -3,4 +3,4 @@
 
 mod reader;
 
-pub use crate::reader::{BatchReader, Position, ReadFault};
+pub use crate::reader::{BatchReader, Pieces, Position, ReadFault};

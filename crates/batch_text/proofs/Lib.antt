@@ -1,5 +1,3 @@
 pub mod TextLaws
 pub mod CauseLaws
-pub mod RecordLaws
-pub mod NextLaws
 pub mod ListingLaws

@@ -4,16 +4,11 @@ ghost use Rattle.std.specs.Prelude.{◌≡◌, ◌≤◌, length, IfOk, string_b
 ghost use Rattle.batch_text.specs.Causes as definitions;
 ghost use Rattle.batch_text.specs.Causes.{are_zeros, is_old, attribute_cause};
 
-use crate::fields::{i32_at, push_int, push_long, u16_at, u32_at};
+use crate::fields::{push_int, push_long};
 use crate::sizes::record_cause;
+use batch::{FRONT, HEADER, i32_at, u16_at, u32_at};
 use std::alloc::{AllocError, Global};
 use wire_spec::BatchFault;
-
-/// The bytes of a batch's header.
-const HEADER: usize = 61;
-
-/// The bytes up to the end of the field batchLength.
-const FRONT: usize = 12;
 
 /// Whether all bytes are 0.
 fn are_zeros(bytes: &[u8]) -> bool

@@ -2,58 +2,11 @@
 
 ghost use Rattle.std.specs.Prelude.{◌≡◌, ◌+◌, ◌≤◌, ◌++◌, length, OnOk, IfOk, string_bytes};
 ghost use Rattle.std.specs.Int.{w16, w32, w64};
-ghost use Rattle.wire_spec.specs.BatchReading.{number_at, signed_at};
+ghost use Rattle.wire_spec.specs.BatchReading.{signed_at};
 ghost use Rattle.batch_text.specs.Lines.{count_field, field, place_part, time_part, producer_part, batch_line};
 
-use byteorder::{BigEndian, ByteOrder};
+use batch::{i16_at, i32_at, i64_at, u32_at};
 use std::alloc::{AllocError, Global};
-
-/// The number of 16 bits at a place, its highest byte first.
-pub(crate) fn u16_at(bytes: &[u8], at: usize) -> u16
-    requires { at + 2 ≤ length bytes.now }
-    ensures { result ≡ number_at w16 at bytes.now }
-{
-    BigEndian::read_u16(&bytes[at..])
-}
-
-/// The number of 32 bits at a place, its highest byte first.
-pub(crate) fn u32_at(bytes: &[u8], at: usize) -> u32
-    requires { at + 4 ≤ length bytes.now }
-    ensures { result ≡ number_at w32 at bytes.now }
-{
-    BigEndian::read_u32(&bytes[at..])
-}
-
-/// The signed number of 16 bits at a place, its highest byte first.
-fn i16_at(bytes: &[u8], at: usize) -> i16
-    requires { at + 2 ≤ length bytes.now }
-    ensures { result ≡ signed_at w16 at bytes.now }
-{
-    BigEndian::read_i16(&bytes[at..])
-}
-
-/// The signed number of 32 bits at a place, its highest byte first.
-pub(crate) fn i32_at(bytes: &[u8], at: usize) -> i32
-    requires { at + 4 ≤ length bytes.now }
-    ensures { result ≡ signed_at w32 at bytes.now }
-{
-    BigEndian::read_i32(&bytes[at..])
-}
-
-fn u64_at(bytes: &[u8], at: usize) -> u64
-    requires { at + 8 ≤ length bytes.now }
-    ensures { result ≡ number_at w64 at bytes.now }
-{
-    BigEndian::read_u64(&bytes[at..])
-}
-
-/// The signed number of 64 bits at a place, its highest byte first.
-fn i64_at(bytes: &[u8], at: usize) -> i64
-    requires { at + 8 ≤ length bytes.now }
-    ensures { result ≡ signed_at w64 at bytes.now }
-{
-    u64_at(bytes, at).cast_signed()
-}
 
 /// Appends a number after its name to a text. It fails only where memory runs out.
 #[tactic(auto, unfolding(crate::specs::Lines::count_field))]

@@ -5,11 +5,10 @@
 mod cause;
 mod fields;
 mod listing;
-mod next;
 mod records;
 mod sizes;
 
 pub use crate::cause::cause_text;
 pub use crate::fields::batch_text;
-pub use crate::listing::{ListFault, Listing, Refusal, list_all};
+pub use crate::listing::{ListFault, Listing, NoBatch, list_all};
 pub use crate::records::record_text;

@@ -1,20 +1,22 @@
 //! All batches of a reader, listed.
 
-ghost use Rattle.std.specs.Prelude.{◌≡◌, ◌≤◌, OnOk, IfOk, IfErr, length, string_bytes};
-ghost use Rattle.std.specs.Io.KnownBytes.{Appends};
-ghost use Rattle.wire_spec.specs.BatchSpelling.{BatchFits, batch_spelling};
+ghost use Rattle.std.specs.Prelude.{◌≡◌, ◌+◌, length, OnOk, IfOk, IfErr, string_bytes};
+ghost use Rattle.std.specs.Io.KnownBytes.{Appends, prepend_known};
+ghost use Rattle.wire_spec.specs.BatchSpelling.{batch_spelling};
+ghost use Rattle.batch.specs.Streams.{kept_bytes};
 ghost use Rattle.batch_text.specs.Listings as definitions;
-ghost use Rattle.batch_text.specs.Listings.{Lists, Counted, IsUnlisted};
+ghost use Rattle.batch_text.specs.Listings.{Lists, IsUnlisted, StopsListing};
 ghost use Rattle.batch_text.specs.declared.listing.ListFault.TheVariants.{Memory};
 
 use crate::fields::batch_text;
-use crate::next::{Found, NextFault, next};
 use crate::records::record_text;
+use batch::{Feed, PackedBatch};
+use batch_reader::{Pieces, ReadFault};
 use bytes::Bytes;
 use std::alloc::{AllocError, Global};
 use std::io;
 use std::io::{Read, Write};
-use wire_spec::{Batch, BatchFault, MAX_PIECE};
+use wire_spec::{BatchFault, MAX_PIECE};
 
 /// What is listed of record batches.
 #[derive(Clone, Copy, Debug, PartialEq, Eq)]
@@ -27,7 +29,7 @@ pub enum Listing {
 
 /// Bytes that begin with no batch.
 #[derive(Drop)]
-pub struct Refusal {
+pub struct NoBatch {
     /// How many batches are before them.
     pub batches: u64,
     /// How many bytes those have.
@@ -42,7 +44,7 @@ pub struct Refusal {
 #[derive(Drop)]
 pub enum ListFault {
     /// The bytes that follow begin with no batch, or end inside one.
-    Batch(Refusal),
+    Batch(NoBatch),
     /// The reader failed, or gave 2^64 bytes.
     Read,
     /// The writer failed.
@@ -59,88 +61,77 @@ impl From<AllocError> for ListFault {
     }
 }
 
-/// How many batches were listed, and how many bytes they have.
-#[derive(Clone, Copy)]
-struct Position {
-    batches: u64,
-    bytes: u64,
-}
-
 /// The text of a batch that begins at a position.
 fn text_of(
     alloc: Global,
     listing: Listing,
     position: u64,
-    found: &Found,
+    batch: &PackedBatch,
 ) -> Result<String, AllocError>
-    requires fits { BatchFits found.now.batch }
-    requires bytes { found.now.bytes ≡ batch_spelling found.now.batch }
-    requires long { 61 ≤ length found.now.bytes }
-    ensures { IfOk result (λ text. string_bytes text ≡ definitions.text_of listing position found.now.batch) }
+    ensures { IfOk result (λ text. string_bytes text ≡ definitions.text_of listing position batch.now) }
 {
+    let bytes = batch.bytes();
     match listing {
-        Listing::Batches => batch_text(alloc, position, &found.bytes),
-        Listing::Records => record_text(alloc, &found.batch),
+        Listing::Batches => batch_text(alloc, position, bytes),
+        Listing::Records => record_text(alloc, &batch.to_batch(alloc)?),
     }
 }
 
-/// Writes the text of a batch that begins at a position.
+/// Writes the text of a batch that begins at a position, and returns the position after it, or `Read` past
+/// the greatest.
 fn put<W: Write>(
     alloc: Global,
     listing: Listing,
     position: u64,
-    found: &Found,
+    batch: &PackedBatch,
     writer: &mut W,
-) -> Result<(), ListFault>
-    requires fits { BatchFits found.now.batch }
-    requires bytes { found.now.bytes ≡ batch_spelling found.now.batch }
-    requires long { 61 ≤ length found.now.bytes }
-    ensures ok { OnOk result (Appends (W.contents writer.old) (W.contents writer.new) (definitions.text_of listing position found.now.batch)) }
+) -> Result<u64, ListFault>
+    ensures ok { OnOk result (Appends (W.contents writer.old) (W.contents writer.new) (definitions.text_of listing position batch.now)) }
+    ensures after { IfOk result (λ after. after ≡ position + length (batch_spelling batch.now)) }
     ensures err { IfErr result IsUnlisted }
 {
-    let text = text_of(alloc, listing, position, found)?;
+    let text = text_of(alloc, listing, position, batch)?;
     match writer.write_all(text.as_bytes()) {
-        Ok(()) => Ok(()),
+        Ok(()) => {}
         Err(error) => match error.kind() {
-            io::ErrorKind::OutOfMemory => Err(ListFault::Memory),
-            _ => Err(ListFault::Write),
+            io::ErrorKind::OutOfMemory => return Err(ListFault::Memory),
+            _ => return Err(ListFault::Write),
         },
     }
-}
-
-/// Why no further batch is listed, at a position.
-fn fault_at(fault: NextFault, position: Position) -> ListFault
-    ensures { result ≡ definitions.fault_at position.batches position.bytes fault }
-{
-    match fault {
-        NextFault::Refused(fault, bytes) => ListFault::Batch(Refusal {
-            batches: position.batches,
-            position: position.bytes,
-            fault,
-            bytes,
-        }),
-        NextFault::Read => ListFault::Read,
-        NextFault::Memory => ListFault::Memory,
-    }
-}
-
-/// The position after a batch of some bytes, or `Read` past the greatest.
-fn after(position: Position, size: usize) -> Result<Position, ListFault>
-    requires few { position.batches ≤ position.bytes }
-    requires some { 1 ≤ size }
-    ensures { Counted position.batches position.bytes size result }
-{
-    match position.bytes.checked_add(size as u64) {
-        Some(bytes) => Ok(Position {
-            batches: position.batches + 1,
-            bytes,
-        }),
+    match position.checked_add(batch.bytes().len() as u64) {
+        Some(after) => Ok(after),
         None => Err(ListFault::Read),
     }
 }
 
+/// Why no further batch is listed, after so many batches of so many bytes.
+fn fault_after<R: Read>(
+    pieces: &mut Pieces,
+    reader: &mut R,
+    fault: ReadFault,
+    batches: u64,
+    position: u64,
+) -> ListFault
+    ensures { StopsListing (prepend_known (kept_bytes pieces.old.stream) (R.remaining reader.old)) batches position fault result }
+{
+    match fault {
+        ReadFault::Read => ListFault::Read,
+        ReadFault::Memory | ReadFault::Batch(BatchFault::Memory) => ListFault::Memory,
+        ReadFault::Batch(fault) => match pieces.refused(reader) {
+            Ok(bytes) => ListFault::Batch(NoBatch {
+                batches,
+                position,
+                fault,
+                bytes,
+            }),
+            Err(ReadFault::Read) => ListFault::Read,
+            Err(_) => ListFault::Memory,
+        },
+    }
+}
+
 /// Writes the text of each batch of a reader, up to its end or to bytes that begin with no batch. Of the
-/// reader's bytes those of one batch are kept at a time.
+/// reader's bytes those of one batch and of one piece are kept at a time.
 pub fn list_all<R: Read, W: Write>(
     alloc: Global,
     listing: Listing,
@@ -149,34 +140,13 @@ pub fn list_all<R: Read, W: Write>(
 ) -> Result<(), ListFault>
     ensures { Lists listing (R.remaining reader.old) (W.contents writer.old) result (W.contents writer.new) }
 {
-    let mut buffer = vec![in alloc; 0u8; MAX_PIECE]?;
-    list_pieces(alloc, listing, reader, &mut buffer, writer)
-}
-
-/// The same, with room for the bytes that are read at once.
-fn list_pieces<R: Read, W: Write>(
-    alloc: Global,
-    listing: Listing,
-    reader: &mut R,
-    buffer: &mut [u8],
-    writer: &mut W,
-) -> Result<(), ListFault>
-    requires { 1 ≤ length buffer.old }
-    ensures { Lists listing (R.remaining reader.old) (W.contents writer.old) result (W.contents writer.new) }
-{
-    let mut bytes = Vec::new(alloc);
-    let mut position = Position {
-        batches: 0,
-        bytes: 0,
-    };
-    for _ in 0..u64::MAX {
-        match next(alloc, reader, buffer, &mut bytes) {
+    let mut pieces = Pieces::new(alloc, Feed::new(alloc), MAX_PIECE)?;
+    let mut position = 0;
+    for batches in 0..u64::MAX {
+        match pieces.next(reader) {
             Ok(None) => return Ok(()),
-            Ok(Some(found)) => {
-                put(alloc, listing, position.bytes, &found, writer)?;
-                position = after(position, found.bytes.len())?;
-            }
-            Err(fault) => return Err(fault_at(fault, position)),
+            Ok(Some(batch)) => position = put(alloc, listing, position, &batch, writer)?,
+            Err(fault) => return Err(fault_after(&mut pieces, reader, fault, batches, position)),
         }
     }
     Err(ListFault::Read)

@@ -1,18 +1,16 @@
 //! The records of a batch as lines of a script.
 
-ghost use Rattle.std.specs.Prelude.{◌≡◌, ◌<◌, [], ◌∷◌, ◌++◌, pos, ◌≤ℤ◌, ◌<ℤ◌, unsigned_abs, IfOk, OnOk, string_bytes};
+ghost use Rattle.std.specs.Prelude.{◌≡◌, ◌<◌, ◌++◌, pos, ◌≤ℤ◌, ◌<ℤ◌, unsigned_abs, IfOk, OnOk, string_bytes};
 ghost use Rattle.log_spec.specs.Logs.{timestamp_of, FitsRecord, FitsLog, RowFits};
-ghost use Rattle.row_batch.specs.RowBatches.{batch_of};
 ghost use Rattle.batch_text.specs.Lines as definitions;
 ghost use Rattle.batch_text.specs.Lines.{put_line, append_line, record_line, record_lines};
 
-use batch::encode;
 use kafka_record::{share_bytes, share_headers};
 use log_spec::Row;
-use row_batch::one_row_fits;
+use row_batch::OpenBatch;
 use script::{push_bytes, push_hex};
 use std::alloc::{AllocError, Global};
-use wire_spec::{Batch, Record, Records, TIMESTAMP_END};
+use wire_spec::{Batch, Record, TIMESTAMP_END};
 
 /// The timestamp of a record of a batch, in milliseconds.
 fn timestamp(batch: &Batch, given: &Record) -> u64
@@ -53,44 +51,20 @@ fn push_put(text: &mut String, row: &Row) -> Result<(), AllocError>
     text.push_str("\n")
 }
 
-/// A batch of one record, that of a row.
-#[tactic(auto, using(crate::proofs::RecordLaws::lone_is))]
-fn lone(alloc: Global, row: Row) -> Result<Batch, AllocError>
-    requires { RowFits row }
-    ensures { IfOk result (λ batch. batch ≡ batch_of 0 (row ∷ [])) }
-{
-    let mut list = Vec::new(alloc);
-    list.push(Record {
-        timestamp_delta: 0,
-        key: row.key,
-        value: row.value,
-        headers: row.headers,
-    })?;
-    Ok(Batch {
-        base_offset: 0,
-        leader_epoch: 0,
-        base_timestamp: row.timestamp as i64,
-        producer_id: -1,
-        producer_epoch: -1,
-        base_sequence: -1,
-        records: Records { list },
-    })
-}
-
 /// The bytes of a batch of one record, that of a row.
-fn one_row_batch(alloc: Global, row: Row) -> Result<Vec<u8>, AllocError>
-    requires { RowFits row }
-    ensures { IfOk result (λ bytes. bytes.items ≡ definitions.one_row row) }
+fn one_row_batch(alloc: Global, row: &Row) -> Result<Vec<u8>, AllocError>
+    requires { RowFits row.now }
+    ensures { IfOk result (λ bytes. bytes.items ≡ definitions.one_row row.now) }
 {
-    one_row_fits();
-    let batch = lone(alloc, row)?;
-    encode(alloc, &batch)
+    let mut batch = OpenBatch::new(alloc);
+    batch.push(&row.by_ref())?;
+    batch.take(0)
 }
 
 /// Appends the `append` of a record to a text.
-fn push_append(alloc: Global, text: &mut String, row: Row) -> Result<(), AllocError>
-    requires { RowFits row }
-    ensures { OnOk result (string_bytes text.new ≡ string_bytes text.old ++ append_line row) }
+fn push_append(alloc: Global, text: &mut String, row: &Row) -> Result<(), AllocError>
+    requires { RowFits row.now }
+    ensures { OnOk result (string_bytes text.new ≡ string_bytes text.old ++ append_line row.now) }
 {
     let bytes = one_row_batch(alloc, row)?;
     text.push_str("append 0 hex:")?;
@@ -112,7 +86,7 @@ fn push_record(
     if given.headers.list.is_empty() {
         push_put(text, &row)
     } else {
-        push_append(alloc, text, row)
+        push_append(alloc, text, &row)
     }
 }
 

@@ -5,13 +5,11 @@ ghost use Rattle.wire_spec.specs.RecordReading.{varint_at, varlong_at};
 ghost use Rattle.batch_text.specs.Causes as definitions;
 ghost use Rattle.batch_text.specs.Causes.{at_least_0, after_part, after_record, after_records, sizes_at, is_cut};
 
-use crate::fields::{push_count, u32_at};
+use crate::fields::push_count;
+use batch::{HEADER, u32_at};
 use std::alloc::{AllocError, Global};
 use varint::{read32, read64};
 use wire_spec::{MAX_HEADERS, MAX_KEY, MAX_VALUE, VarintFault};
-
-/// The bytes of a batch's header.
-const HEADER: usize = 61;
 
 /// The lengths of a record's key and value, 0 for null, and its number of headers.
 #[derive(Clone, Copy)]

@@ -373,7 +373,7 @@ fn main(rt: HostRuntime) -> io::Result<()> {
         return compare_all(&rt, rt.alloc(), word.parse::<u32>().unwrap_or(20));
     };
     if word.as_str() == "crc32c" {
-        checksums::compare(&rt, rt.alloc(), times.parse::<u32>().unwrap_or(1_000))
+        checksums::measure(&rt, rt.alloc(), times.parse::<u32>().unwrap_or(1_000))
     } else {
         cut_all(&rt, rt.alloc(), times.parse::<u32>().unwrap_or(100))
     }

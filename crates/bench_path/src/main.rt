@@ -111,7 +111,7 @@ fn push_all(
         let Some(batch) = next_batch(alloc, &mut rest)? else {
             return Ok(());
         };
-        if stream.push_packed(program, batch).is_err() {
+        if stream.push(program, batch).is_err() {
             return Err(ErrorKind::InvalidData.into());
         }
     }

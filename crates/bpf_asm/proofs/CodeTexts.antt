@@ -1,6 +1,6 @@
 -- The text of an image's code says that image.
 use Rattle.std.proofs.Common.{◌*◌, ◌≡◌, ℕ, suc, ◌+◌, ◌<◌, ◌≤◌, List, [], ◌∷◌, length, Some, Ok, refl, true, sym, ap}
-use Rattle.std.proofs.Common.{◌∙◌, arith, leb, append_assoc, slice_get}
+use Rattle.std.proofs.Common.{arith, leb, append_assoc, slice_get}
 use Rattle.std.specs.List.{slice_split}
 use Rattle.std.proofs.{lemmas.Bool.le-leb, lemmas.List.length-append}
 use Rattle.machine_spec.specs.{declared.instruction.Placed.Placed, declared.limits.TheConstants.MAX_SLOTS}
@@ -27,9 +27,8 @@ lines_of : (p : Placed) (code : List Placed) → IsSaid p.instruction →
     slice_split is_line_feed (text_of (p ∷ code)) ≡ line_of p.instruction ∷ slice_split is_line_feed (text_of code)
 unfolding line_text
 lines_of p code is =
-    let line = line_of p.instruction in
-    ap (slice_split is_line_feed) (append_assoc line (10 ∷ []) (text_of code))
-    ∙ split_at is_line_feed line 10 (text_of code) (line_feeds p.instruction is.registers is.held) refl
+    rw (append_assoc (line_of p.instruction))
+    (split_at is_line_feed _ 10 (text_of code) (line_feeds p.instruction is.registers is.held) refl)
 
 lines_again : (code : List Placed) (number size : ℕ) → AreSaid code → size + length (image_bytes code) ≤ 8 * MAX_SLOTS →
     lines_image number size (slice_split is_line_feed (text_of code)) ≡ Ok (image_bytes code)
@@ -45,8 +44,7 @@ lines_again (p ∷ code) number size are fits =
     rw (lines_of p code is, line_again i is.registers is.held, here, later)
 
 some_bytes : (image : List ℕ) → 0 < length image → some_image (Ok image) ≡ Ok image
-some_bytes [] some = absurd (omega arith)
-some_bytes (byte ∷ image) some = refl
+some_bytes image some = grind arith
 
 pub text_again : (image : List ℕ) (code : List Placed) → AreBytes image → IsCodeOf image code →
     image_of (text_of code) ≡ Ok image
@@ -55,5 +53,4 @@ text_again image code fits is =
     let size = sized image is.size in
     let same = code_spelled image code fits is in
     let whole : length (image_bytes code) ≡ length image = ap length (sym same) in
-    let lines = lines_again code 1 0 (said image code fits is) (omega arith) in
-    ap some_image (lines ∙ ap Ok (sym same)) ∙ some_bytes image (omega arith)
+    rw (lines_again code 1 0 (said image code fits is) (omega arith), ← same) (some_bytes image (omega arith))

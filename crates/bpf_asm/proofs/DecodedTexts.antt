@@ -1,6 +1,6 @@
 -- The image of a text decodes to the instructions of the text's lines.
-use Rattle.std.proofs.Common.{◌*◌, ◌≡◌, ℕ, ◌+◌, ◌<◌, ◌≤◌, leb, List, [], ◌∷◌, ◌++◌, length, Option, Some, None, Result}
-use Rattle.std.proofs.Common.{Ok, Err, refl, ap, subst, ◌∙◌, arith, IfOk}
+use Rattle.std.proofs.Common.{◌*◌, ◌≡◌, ℕ, ◌+◌, ◌<◌, ◌≤◌, leb, List, [], ◌∷◌, length, Option, Some, None, Result, Ok}
+use Rattle.std.proofs.Common.{Err, refl, ap, arith, IfOk}
 use Rattle.std.specs.List.{cons_option, slice_split}
 use Rattle.std.proofs.{lemmas.Bool.cond_both, lemmas.Bool.leb-true, lemmas.Result.IfOk-at_ok, lemmas.List.length-append}
 use Rattle.machine_spec.specs.declared.{instruction.Instruction.Instruction, limits.TheConstants.MAX_SLOTS}
@@ -9,7 +9,7 @@ use Rattle.bpf_asm.specs.{declared.fault.LineFault.LineFault, declared.fault.Asm
 use Rattle.bpf_asm.specs.Reading.{read_line}
 use Rattle.bpf_asm.specs.declared.fault.AsmFault.TheVariants as asm
 use Rattle.bpf_asm.specs.Images.{before_bytes, with_line, lines_image, some_image, image_of}
-use Rattle.bpf_asm.specs.Decoding.{if_said, said_by, instructions_of, without_slots, decoded_image}
+use Rattle.bpf_asm.specs.Decoding.{if_said, said_by, instructions_of, decoded_image}
 use Rattle.bpf_asm.proofs.{Ranges.IsSaid, SaidLines.line_said}
 use Rattle.bpf_asm.proofs.SlotsRead.{AllSaid, spellings, placed_instructions, image_read}
 
@@ -19,20 +19,11 @@ record AreSpelled (instructions : List Instruction) (size : ℕ) (bytes : List �
   spelled : bytes ≡ spellings instructions
   few : size + length bytes ≤ 8 * MAX_SLOTS
 
-abbrev all_bytes : List ℕ → Result (List ℕ) AsmFault
-all_bytes bytes = Ok bytes
-
 -- an instruction's bytes before those of others
 spelled_before : (i : Instruction) (others : List Instruction) (size : ℕ) (r : Result (List ℕ) AsmFault) → IsSaid i →
     IfOk r (AreSpelled others (size + length (spelling i))) →
     IfOk (before_bytes (spelling i) r) (AreSpelled (i ∷ others) size)
-spelled_before i others size (Err f) said are = tt
-spelled_before i others size (Ok later) said are =
-    record {
-      said = (said, are.said);
-      spelled = ap (λ (l : List ℕ). spelling i ++ l) are.spelled;
-      few = omega (arith, length-append (spelling i) later);
-    }
+spelled_before i others size r said are = grind (arith, length-append)
 
 line_spelled : (line : List ℕ) (lines : List (List ℕ)) (number size : ℕ) (r : Result (Option Instruction) LineFault) →
     read_line line ≡ r → size ≤ 8 * MAX_SLOTS →
@@ -57,11 +48,7 @@ lines_spelled (line ∷ lines) number size small =
 
 some_bytes : (r : Result (List ℕ) AsmFault) (image : List ℕ) → some_image r ≡ Ok image →
     (r ≡ Ok image) × (0 < length image)
-some_bytes (Err f) image e = absurd cc
-some_bytes (Ok []) image e = absurd cc
-some_bytes (Ok (byte ∷ bytes)) image e =
-    let same : byte ∷ bytes ≡ image = cc in
-    subst (λ l. (all_bytes (byte ∷ bytes) ≡ Ok l) × (0 < length l)) same (refl, omega arith)
+some_bytes r image e = grind arith
 
 pub image_decodes : (text image : List ℕ) → image_of text ≡ Ok image → decoded_image image ≡ Ok (instructions_of text)
 unfolding image_of
@@ -72,4 +59,4 @@ image_decodes text image e =
     let are = IfOk-at_ok (AreSpelled instructions 0) some.0 (lines_spelled lines 1 0 (omega arith)) in
     let size = ap length are.spelled in
     let read = image_read instructions are.said (omega arith) (omega arith) in
-    ap decoded_image are.spelled ∙ ap without_slots read ∙ ap Ok (placed_instructions 0 instructions)
+    rw (are.spelled, read, placed_instructions 0 instructions)

@@ -1,8 +1,8 @@
 -- The fields that an instruction is spelled with encode that instruction.
-use Rattle.std.proofs.Common.{◌≡◌, ℕ, ◌+◌, ◌*◌, ◌/◌, ◌%◌, ◌^◌, ◌<◌, ◌≤◌, Bool, true, false, cond, Option, Result, Ok}
-use Rattle.std.proofs.Common.{Err, refl, ap, ◌∙◌, arith}
+use Rattle.std.proofs.Common.{◌≡◌, ℕ, ◌+◌, ◌*◌, ◌/◌, ◌%◌, ◌^◌, ◌<◌, ◌≤◌, Bool, true, cond, Option, Result, Ok, Err}
+use Rattle.std.proofs.Common.{refl, arith}
 use Rattle.std.specs.Int.{w32, cast_unsigned, cast_signed}
-use Rattle.std.proofs.{lemmas.Bool.and_from, lemmas.Bool.le-leb, lemmas.Int.of_z-to_z}
+use Rattle.std.proofs.{lemmas.Bool.le-leb, lemmas.Int.of_z-to_z}
 use Rattle.machine_spec.specs.{declared.instruction.Instruction.Instruction, declared.instruction.IsaFault.IsaFault}
 use Rattle.machine_spec.specs.{Image.read_fields, Image.slots_of, declared.operation.Width.TheVariants.Bits32}
 use Rattle.machine_spec.specs.declared.operation.Operation.TheVariants.{Add}
@@ -18,7 +18,7 @@ use Rattle.machine_spec.specs.declared.instruction.Size.TheVariants.{Byte, Doubl
 use Rattle.machine_spec.specs.declared.instruction.Instruction.TheVariants.{Move, Compute, Load, Unary, Store, JumpIf}
 use Rattle.machine_spec.specs.declared.instruction.Instruction.TheVariants.{Jump, Wide}
 use Rattle.machine_spec.specs.declared.instruction.IsaFault.TheVariants as fault
-use Rattle.machine_spec.specs.Opcodes.{Fields, Uses, template_of, uses_of, has_register, has_registers}
+use Rattle.machine_spec.specs.Opcodes.{Fields, Uses, template_of, uses_of, has_registers}
 use Rattle.bpf_isa.specs.Spelling.{spelled_fields, HasRegisters}
 use Rattle.bpf_asm.proofs.Ranges.{is_form, Ranged}
 
@@ -67,25 +67,18 @@ again _ _ _ _ _ _ = refl
 -- ---- registers
 
 registers_hold : (uses : Uses) (f : Fields) → f.dst ≤ 10 → f.src ≤ 10 → has_registers uses f ≡ true
-registers_hold uses f dst src = and_from _ _ (holds uses.dst f.dst dst) (holds uses.src f.src src)
-  where
-    holds : (used : Bool) (n : ℕ) → n ≤ 10 → has_register used n ≡ true
-    holds true n small = le-leb n 10 small
-    holds false n small = refl
+registers_hold uses f dst src = grind (arith, le-leb)
 
 -- an instruction of one slot
 pub narrow_read : (slot : ℕ) (upper : Option ℕ) (i : Instruction) → is_form i ≡ true → Ranged i → HasRegisters i →
     slots_of i ≡ 1 → read_fields slot (with_upper (spelled_fields i) upper) ≡ Ok i
 narrow_read slot upper i form ranged registers one =
-    again slot upper i form ranged one
-    ∙ ap (if_registers slot i) (registers_hold (uses_of i) (spelled_fields i) registers.dst registers.src)
+    let are = registers_hold (uses_of i) (spelled_fields i) registers.dst registers.src in
+    rw are at (again slot upper i form ranged one)
 
 -- the number of a 64-bit immediate is that of its halves
 halves : (n : ℕ) → n < 2 ^ 64 → n / 2 ^ 32 * 2 ^ 32 + cast_unsigned w32 (cast_signed w32 (n % 2 ^ 32)) ≡ n
-halves n small =
-    let lower : cast_unsigned w32 (cast_signed w32 (n % 2 ^ 32)) ≡ n % 2 ^ 32 =
-    of_z-to_z w32 (n % 2 ^ 32) (omega arith) in
-    omega arith
+halves n small = omega (arith, of_z-to_z w32 (n % 2 ^ 32) (omega arith))
 
 pub wide_read : (slot dst n : ℕ) → n < 2 ^ 64 → dst ≤ 10 →
     read_fields slot (spelled_fields (Wide dst n)) ≡ Ok (Wide dst n)

@@ -1,19 +1,17 @@
 -- The line of an instruction reads as that instruction.
-use Rattle.std.proofs.Common.{◌≡◌, ℕ, ◌+◌, ◌-◌, ◌^◌, ◌<◌, ◌≤◌, Bool, true, false, ◌&&◌, ◌==◌, not, cond, List, [], ◌∷◌}
-use Rattle.std.proofs.Common.{◌++◌, length, map, take, get_or, Option, Some, None, Ok, refl, sym, ap, ◌∙◌, arith, ltb}
+use Rattle.std.proofs.Common.{◌≡◌, ℕ, ◌-◌, ◌^◌, ◌≤◌, Bool, true, ◌==◌, not, cond, List, [], ◌∷◌, ◌++◌, length, map}
+use Rattle.std.proofs.Common.{take, get_or, Option, Some, None, Ok, refl, ap, ◌∙◌, arith, ltb}
 use Rattle.std.specs.List.{position_or_len, slice_split, onto_first, before_first}
 use Rattle.std.proofs.{Math.Seq.take-append_seam, Math.Seq.drop-append-add, lemmas.List.Folds.list_all-append}
-use Rattle.std.proofs.lemmas.Bool.{and_parts, lt-ltb, le-ltb}
+use Rattle.std.proofs.lemmas.Bool.{and_parts, not-true, lt-ltb, le-ltb}
 use Rattle.std.proofs.lemmas.List.{append_assoc, length-append, append-nil, take_all}
 use Rattle.machine_spec.specs.declared.{operation.Change.Change, instruction.Distance.Distance}
 use Rattle.machine_spec.specs.declared.{instruction.Source.Source, instruction.Instruction.Instruction}
-use Rattle.machine_spec.specs.declared.operation.Change.TheVariants.{SignExtend}
 use Rattle.machine_spec.specs.declared.instruction.Distance.TheVariants.{Short, Long}
 use Rattle.machine_spec.specs.declared.instruction.Source.TheVariants.{Register, Immediate}
-use Rattle.machine_spec.specs.declared.instruction.Instruction.TheVariants.{Move, Compute, Load, Unary, Store, JumpIf}
-use Rattle.machine_spec.specs.declared.instruction.Instruction.TheVariants.{Jump, Wide, Call, Exit}
+use Rattle.machine_spec.specs.declared.instruction.Instruction.TheVariants.{Unary, Store, Jump}
 use Rattle.bpf_isa.specs.Spelling.{HasRegisters, source_register}
-use Rattle.bpf_asm.specs.{Faults.read_as, Operands.read_source, Operands.source_text, Words.word_of, Words.form_named}
+use Rattle.bpf_asm.specs.{Operands.read_source, Operands.source_text, Words.word_of, Words.form_named}
 use Rattle.bpf_asm.specs.Reading.{is_space, is_comma, is_line_feed, after_spaces, before_spaces, rest_of, read_change}
 use Rattle.bpf_asm.specs.Reading.{read_stored, read_distance, read_operands, read_form, some_read, read_trimmed}
 use Rattle.bpf_asm.specs.Reading.{read_line}
@@ -30,10 +28,7 @@ use Rattle.bpf_asm.proofs.NamedForms.{is_word, Named, form_of, distance_form, st
 -- ---- what a plain byte is not
 
 plain_parts : (b : ℕ) → is_plain b ≡ true → (not (b == 32) ≡ true) × (not (b == 44) ≡ true) × (not (b == 10) ≡ true)
-plain_parts b e =
-    let outer = and_parts (not (b == 32) && not (b == 44)) (not (b == 10)) e in
-    let inner = and_parts (not (b == 32)) (not (b == 44)) outer.0 in
-    (inner.0, inner.1, outer.1)
+plain_parts b e = grind (arith, and_parts)
 
 not_space : (text : List ℕ) → are_plain text ≡ true → fails is_space text ≡ true
 not_space = implied is_plain (λ b. not (is_space b)) (λ b e. (plain_parts b e).0)
@@ -44,29 +39,22 @@ not_comma = implied is_plain (λ b. not (is_comma b)) (λ b e. (plain_parts b e)
 not_feed : (text : List ℕ) → are_plain text ≡ true → fails is_line_feed text ≡ true
 not_feed = implied is_plain (λ b. not (is_line_feed b)) (λ b e. (plain_parts b e).2)
 
-not_true : (b : Bool) → not b ≡ true → b ≡ false
-not_true true e = absurd cc
-not_true false e = refl
-
 -- ---- pieces
 
 pub split_at : (p : ℕ → Bool) (xs : List ℕ) (y : ℕ) (ys : List ℕ) → fails p xs ≡ true → p y ≡ true →
     slice_split p (xs ++ y ∷ ys) ≡ xs ∷ slice_split p ys
 split_at p [] y ys e is = rw is
-split_at p (x ∷ xs) y ys e is =
-    let parts = and_parts (not (p x)) (fails p xs) e in
-    rw (not_true (p x) parts.0, split_at p xs y ys parts.1 is)
+split_at p (x ∷ xs) y ys e is = grind (arith, and_parts, not-true, split_at p xs y ys)
 
 split_none : (p : ℕ → Bool) (xs : List ℕ) → fails p xs ≡ true → slice_split p xs ≡ xs ∷ []
 split_none p [] e = refl
-split_none p (x ∷ xs) e = let parts = and_parts (not (p x)) (fails p xs) e in
-    rw (not_true (p x) parts.0, split_none p xs parts.1)
+split_none p (x ∷ xs) e = grind (arith, and_parts, not-true, split_none p xs)
 
 -- ---- spaces
 
 pub no_spaces : (text : List ℕ) → are_plain text ≡ true → after_spaces text ≡ text
 no_spaces [] e = refl
-no_spaces (b ∷ text) e = rw (not_true (is_space b) (plain_parts b (and_parts (is_plain b) (are_plain text) e).0).0)
+no_spaces (b ∷ text) e = grind (arith, and_parts, plain_parts, not-true)
 
 -- no space ends a text that ends in an operand
 pub ends : (front text : List ℕ) → IsOperand text → before_spaces (front ++ text) ≡ front ++ text
@@ -74,12 +62,10 @@ ends front text is =
     let some = is.some in
     let init = take (length text - 1) text in
     let b = get_or text (length text - 1) 0 in
-    let whole : text ≡ init ++ b ∷ [] = sym (take_all (length text) text (omega arith))
-    ∙ last_of text (length text) some (omega arith) in
-    let split : front ++ text ≡ (front ++ init) ++ b ∷ [] = ap (λ t. front ++ t) whole
-    ∙ sym (append_assoc front init (b ∷ [])) in
-    let other = not_true (is_space b) (plain_parts b (all_at is_plain text _ is.plain (omega arith))).0 in
-    ap before_spaces split ∙ before_other (front ++ init) b other ∙ sym split
+    let last = rw (take_all (length text) text (omega arith)) at (last_of text (length text) some (omega arith)) in
+    let split : front ++ text ≡ (front ++ init) ++ b ∷ [] = rw (append_assoc front init, ← last) in
+    let other = not-true (is_space b) (plain_parts b (all_at is_plain text _ is.plain (omega arith))).0 in
+    rw split (before_other (front ++ init) b other)
 
 -- ---- operands
 
@@ -108,7 +94,7 @@ joined_ends front text [] are = ends front text are.0
 joined_ends front text (next ∷ texts) are =
     let rest = joined_by_commas (next ∷ texts) in
     let same : front ++ (text ++ (44 ∷ 32 ∷ rest)) ≡ (front ++ (text ++ (44 ∷ 32 ∷ []))) ++ rest = simp append_assoc in
-    ap before_spaces same ∙ joined_ends (front ++ (text ++ (44 ∷ 32 ∷ []))) next texts are.1 ∙ sym same
+    rw same (joined_ends (front ++ (text ++ (44 ∷ 32 ∷ []))) next texts are.1)
 
 feeds_joined : (text : List ℕ) (texts : List (List ℕ)) → AreOperands (text ∷ texts) →
     fails is_line_feed (joined_by_commas (text ∷ texts)) ≡ true
@@ -119,19 +105,14 @@ feeds_joined text (next ∷ texts) are =
 
 -- ---- lines
 
-word_plain : (word : List ℕ) → is_word word ≡ true → are_plain word ≡ true
-word_plain [] e = absurd cc
-word_plain (b ∷ word) e = (and_parts (are_plain (b ∷ word)) (not (b == 35)) e).0
-
-word_some : (word : List ℕ) → is_word word ≡ true → 0 < length word
-word_some [] e = absurd cc
-word_some (b ∷ word) e = omega arith
+word_is : (word : List ℕ) → is_word word ≡ true → IsOperand word
+word_is word e = grind (arith, and_parts)
 
 pub no_feeds : (word : List ℕ) (texts : List (List ℕ)) → is_word word ≡ true → AreOperands texts →
     fails is_line_feed (word ++ operands_text texts) ≡ true
-no_feeds word [] is are = rw (append-nil word) (not_feed word (word_plain word is))
+no_feeds word [] is are = rw (append-nil word) (not_feed word (word_is word is).plain)
 no_feeds word (text ∷ texts) is are =
-    rw (list_all-append _ word (32 ∷ joined_by_commas (text ∷ texts)), not_feed word (word_plain word is))
+    rw (list_all-append _ word (32 ∷ joined_by_commas (text ∷ texts)), not_feed word (word_is word is).plain)
     (feeds_joined text texts are)
 
 -- a line that begins with a word has no space before it and is no comment
@@ -143,27 +124,28 @@ unfolding read_line
 begins [] rest form named is trimmed = absurd cc
 begins (b ∷ word) rest form named is trimmed =
     let parts = and_parts (are_plain (b ∷ word)) (not (b == 35)) is in
-    let first = not_true (is_space b) (plain_parts b (and_parts (is_plain b) (are_plain word) parts.0).0).0 in
+    let plain = and_parts (is_plain b) (are_plain word) parts.0 in
+    let first = not-true (is_space b) (plain_parts b plain.0).0 in
     ap (λ s. read_trimmed (before_spaces (cond s (after_spaces (word ++ rest)) (b ∷ (word ++ rest))))) first
-    ∙ ap read_trimmed trimmed ∙ rw (not_true (b == 35) parts.1, named)
+    ∙ ap read_trimmed trimmed ∙ rw (not-true (b == 35) parts.1, named)
 
 line_read : (word : List ℕ) (texts : List (List ℕ)) (form i : Instruction) → Named word form → AreOperands texts →
     read_operands form texts ≡ Ok i → read_line (word ++ operands_text texts) ≡ Ok (Some i)
 line_read word [] form i named are reads =
-    let plain = word_plain word named.1 in
+    let operand = word_is word named.1 in
     let whole = append-nil word in
-    let all : position_or_len is_space word ≡ length word = first_none is_space word (not_space word plain) in
+    let all : position_or_len is_space word ≡ length word = first_none is_space word (not_space word operand.plain) in
     let first : before_first is_space (word ++ []) ≡ word =
     rw whole (take_all (position_or_len is_space word) word (omega arith)) in
     let rest : rest_of (word ++ []) ≡ None =
     rw (whole, le-ltb (position_or_len is_space word) (length word) (omega arith)) in
-    let trimmed = ends [] word (record { plain = plain; some = word_some word named.1 }) in
+    let trimmed = ends [] word operand in
     begins word [] (Some form) (rw first named.0) named.1 (rw whole trimmed) ∙ rw (rest, reads)
 line_read word (text ∷ texts) form i named are reads =
     let operands = joined_by_commas (text ∷ texts) in
     let whole = word ++ 32 ∷ operands in
     let place : position_or_len is_space whole ≡ length word =
-    first_at is_space word 32 operands (not_space word (word_plain word named.1)) refl in
+    first_at is_space word 32 operands (not_space word (word_is word named.1).plain) refl in
     let first : before_first is_space whole ≡ word = rw place (take-append_seam word (32 ∷ operands)) in
     let there : ltb (length word) (length whole) ≡ true =
     lt-ltb _ _ (omega (arith, length-append word (32 ∷ operands))) in
@@ -177,8 +159,7 @@ line_read word (text ∷ texts) form i named are reads =
 
 source_again : (source : Source) → source_register source ≤ 10 → RangedSource source →
     read_source (source_text source) ≡ Ok source
-source_again (Register r) small ranged = register_source r small
-source_again (Immediate imm) small ranged = immediate_source imm ranged
+source_again source small ranged = grind (arith, register_source, immediate_source)
 
 source_operand : (source : Source) → source_register source ≤ 10 → RangedSource source → IsOperand (source_text source)
 source_operand (Register r) small ranged = register_operand r small
@@ -186,63 +167,46 @@ source_operand (Immediate imm) small ranged = number_operand imm ranged
 
 stored_again : (source : Source) → source_register source ≤ 10 → RangedSource source →
     read_stored (stored_form source) (source_text source) ≡ Ok source
-stored_again (Register r) small ranged = ap (read_as Register) (register_again r small)
-stored_again (Immediate imm) small ranged = ap (read_as Immediate) (immediate_again imm ranged)
+stored_again (Register r) small ranged = rw (register_again r small)
+stored_again (Immediate imm) small ranged = rw (immediate_again imm ranged)
 
 distance_again : (distance : Distance) → RangedDistance distance →
     read_distance (distance_form distance) (jump_text distance) ≡ Ok distance
-distance_again (Short slots) ranged = ap (read_as Short) (short_again slots ranged)
-distance_again (Long slots) ranged = ap (read_as Long) (long_again slots ranged)
+distance_again (Short slots) ranged = rw (short_again slots ranged)
+distance_again (Long slots) ranged = rw (long_again slots ranged)
 
 jump_operand : (distance : Distance) → RangedDistance distance → IsOperand (jump_text distance)
-jump_operand (Short slots) ranged = distance_operand (2 ^ 15) slots (omega arith) ranged
-jump_operand (Long slots) ranged = distance_operand (2 ^ 31) slots (omega arith) ranged
+jump_operand distance ranged = grind (arith, distance_operand (2 ^ 15), distance_operand (2 ^ 31))
 
 change_again : (change : Change) (dst src : ℕ) → dst ≤ 10 → src ≤ 10 → RangedChange change dst src →
     read_change change (change_operands change dst src) ≡ Ok (Unary change dst src)
-change_again (SignExtend _ _) dst src small source ranged = rw (register_again dst small, register_again src source)
-change_again _ dst src small source ranged = rw (register_again dst small, ranged)
+change_again change dst src small source ranged = grind (arith, register_again dst small, register_again src source)
 
 change_are : (change : Change) (dst src : ℕ) → dst ≤ 10 → src ≤ 10 → AreOperands (change_operands change dst src)
-change_are (SignExtend _ _) dst src small source = (register_operand dst small, (register_operand src source, tt))
-change_are _ dst src small source = (register_operand dst small, tt)
+change_are change dst src small source = grind (arith, register_operand)
 
 pub operands_are : (i : Instruction) → HasRegisters i → IsHeld i → AreOperands (operands_of i)
-operands_are (Move width dst source) r h = (register_operand dst r.dst, (source_operand source r.src h.ranged, tt))
-operands_are (Compute width operation dst source) r h =
-    (register_operand dst r.dst, (source_operand source r.src h.ranged, tt))
-operands_are (Load size extension dst base offset) r h =
-    (register_operand dst r.dst, (place_operand base offset r.src h.ranged, tt))
-operands_are (Unary change dst src) r h = change_are change dst src r.dst r.changed
-operands_are (Store size base offset source) r h =
-    (place_operand base offset r.dst h.ranged.0, (source_operand source r.src h.ranged.1, tt))
-operands_are (JumpIf width test dst source offset) r h = (
-  register_operand dst r.dst,
-  (
-    source_operand source r.src h.ranged.0,
-    (distance_operand (2 ^ 15) offset (omega arith) h.ranged.1, tt),
-  ),
-)
-operands_are (Jump distance) r h = (jump_operand distance h.ranged, tt)
-operands_are (Wide dst n) r h = (register_operand dst r.dst, (natural_operand n h.ranged, tt))
-operands_are (Call n) r h = (number_operand n h.ranged, tt)
-operands_are Exit r h = tt
+operands_are i r h =
+    let short = distance_operand (2 ^ 15) in
+    grind (
+      arith,
+      register_operand,
+      source_operand,
+      place_operand,
+      change_are,
+      short,
+      jump_operand,
+      natural_operand,
+      number_operand,
+    )
 
 operands_again : (i : Instruction) → HasRegisters i → IsHeld i → read_operands (form_of i) (operands_of i) ≡ Ok i
-operands_again (Move width dst source) r h = rw (register_again dst r.dst, source_again source r.src h.ranged)
-operands_again (Compute width operation dst source) r h =
-    rw (register_again dst r.dst, source_again source r.src h.ranged)
-operands_again (Load size extension dst base offset) r h =
-    rw (register_again dst r.dst, place_again base offset r.src h.ranged)
 operands_again (Unary change dst src) r h = change_again change dst src r.dst r.changed h.ranged
 operands_again (Store size base offset source) r h =
     rw (place_again base offset r.dst h.ranged.0, stored_again source r.src h.ranged.1)
-operands_again (JumpIf width test dst source offset) r h =
-    rw (register_again dst r.dst, source_again source r.src h.ranged.0, short_again offset h.ranged.1)
 operands_again (Jump distance) r h = rw (distance_again distance h.ranged)
-operands_again (Wide dst n) r h = rw (register_again dst r.dst, wide_again n h.ranged)
-operands_again (Call n) r h = rw (immediate_again n h.ranged)
-operands_again Exit r h = refl
+operands_again _ r h =
+    grind (arith, register_again, source_again, place_again, short_again, wide_again, immediate_again)
 
 pub line_again : (i : Instruction) → HasRegisters i → IsHeld i → read_line (line_of i) ≡ Ok (Some i)
 line_again i registers is = line_read (word_of i) (operands_of i) (form_of i) i (word_named i is.form)

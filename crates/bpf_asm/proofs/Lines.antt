@@ -1,6 +1,6 @@
 -- The image of lines, line after line.
-use Rattle.std.proofs.Common.{◌≡◌, ℕ, ◌+◌, ◌-◌, ◌<◌, ◌≤◌, Bool, true, false, List, [], ◌∷◌, ◌++◌, length, drop, take}
-use Rattle.std.proofs.Common.{Result, Ok, Err, refl, sym, ap, arith, leb, ltb, cond, append_assoc}
+use Rattle.std.proofs.Common.{◌≡◌, ℕ, ◌+◌, ◌<◌, ◌≤◌, Bool, true, false, List, [], ◌∷◌, ◌++◌, length, drop, take, Result}
+use Rattle.std.proofs.Common.{Ok, Err, refl, sym, ap, arith, leb, ltb, cond, append_assoc}
 use Rattle.std.proofs.lemmas.List.{drop-drop, length-drop, take_all}
 use Rattle.std.proofs.lemmas.Bool.{ltb-true, ltb-false, le-leb, lt-leb}
 use Rattle.std.proofs.lemmas.List.Splits.{slice_split_first}
@@ -21,23 +21,21 @@ next_cases text start true within e =
     let rest = drop start text in
     let end = position_or_len is_line_feed rest in
     let before : end < length rest = ltb-true end (length rest) e in
-    let left : length rest ≡ length text - start = length-drop start text in
-    let later : leb (start + (end + 1)) (length text) ≡ true = le-leb _ _ (omega arith) in
+    let left = length-drop start text in
+    let later = le-leb (start + (end + 1)) (length text) (omega arith) in
     rw (later, slice_split_first is_line_feed rest 0 before, drop-drop (end + 1) start text)
 next_cases text start false within e =
     let rest = drop start text in
     let end = position_or_len is_line_feed rest in
     let past : length rest ≤ end = ltb-false end (length rest) e in
-    let left : length rest ≡ length text - start = length-drop start text in
-    let last : leb (start + (end + 1)) (length text) ≡ false = lt-leb _ _ (omega arith) in
+    let left = length-drop start text in
+    let last = lt-leb (start + (end + 1)) (length text) (omega arith) in
     rw (last, split_whole is_line_feed rest past, take_all end rest past)
 
 next_line : (text : List ℕ) (start end : ℕ) → start ≤ length text → end ≡ position_or_len is_line_feed (drop start text)
     → lines_from text start ≡ take end (drop start text) ∷ lines_from text (start + (end + 1))
 next_line text start end within place =
-    rw (le-leb start (length text) within, place)
-    (next_cases text start (ltb (position_or_len is_line_feed (drop start text)) (length (drop start text))) within
-    refl)
+    rw (le-leb start (length text) within, place) (next_cases text start _ within refl)
 
 -- what lines up to a place made, and what those after it make
 pub record IsRead (text : List ℕ) (number start : ℕ) (image : List ℕ) : Type 0 where
@@ -60,13 +58,8 @@ pub read_refused : (text line old : List ℕ) (number start end : ℕ) (f : AsmF
     IsRefused number (read_line line) old f → IsRead text number start old →
     lines_image 1 0 (slice_split is_line_feed text) ≡ Err f
 read_refused text line old number start end f within place is refused before =
-    let later = lines_from text (start + (end + 1)) in
-    rw (
-      before.so_far,
-      next_line text start end within place,
-      ← is,
-      refused.whatever (λ (size : ℕ). lines_image (number + 1) size later),
-    )
+    let later = refused.whatever (λ (size : ℕ). lines_image (number + 1) size (lines_from text (start + (end + 1)))) in
+    rw (before.so_far, next_line text start end within place, ← is, later)
 
 -- ---- one instruction
 

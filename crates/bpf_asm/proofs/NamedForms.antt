@@ -1,14 +1,7 @@
 -- The word of each instruction names its form.
-use Rattle.std.proofs.Common.{◌≡◌, ℕ, pos, Bool, true, false, ◌&&◌, ◌==◌, not, List, [], ◌∷◌, Some, refl}
+use Rattle.std.proofs.Common.{◌≡◌, ℕ, pos, Bool, true, false, ◌&&◌, ◌==◌, not, List, [], ◌∷◌, Some, arith}
 use Rattle.machine_spec.specs.declared.{instruction.Distance.Distance, instruction.Source.Source}
-use Rattle.machine_spec.specs.declared.{instruction.Instruction.Instruction, operation.Width.TheVariants.Bits32}
-use Rattle.machine_spec.specs.declared.operation.ByteOrder.TheVariants.{LittleEndian}
-use Rattle.machine_spec.specs.declared.{operation.Operation.TheVariants.Add, operation.Test.TheVariants.Equal}
-use Rattle.machine_spec.specs.declared.instruction.Extension.TheVariants.{Sign}
-use Rattle.machine_spec.specs.declared.operation.Change.TheVariants.{Negate, Order, SignExtend}
-use Rattle.machine_spec.specs.declared.operation.SwappedWidth.TheVariants as swapped
-use Rattle.machine_spec.specs.declared.operation.ExtendedWidth.TheVariants as extended
-use Rattle.machine_spec.specs.declared.instruction.Size.TheVariants.{Byte, Double}
+use Rattle.machine_spec.specs.declared.{instruction.Instruction.Instruction}
 use Rattle.machine_spec.specs.declared.instruction.Distance.TheVariants.{Short, Long}
 use Rattle.machine_spec.specs.declared.instruction.Source.TheVariants.{Register, Immediate}
 use Rattle.machine_spec.specs.declared.instruction.Instruction.TheVariants.{Move, Compute, Load, Unary, Store, JumpIf}
@@ -53,19 +46,4 @@ form_of Exit = Exit
 
 pub word_named : (i : Instruction) → is_form i ≡ true → Named (word_of i) (form_of i)
 unfolding form_named
-word_named (Move Bits32 _ _) _ = (refl, refl)
-word_named (Compute Bits32 Add _ _) _ = (refl, refl)
-word_named (Compute _ Add _ _) _ = (refl, refl)
-word_named (Load Double Sign _ _ _) there = absurd cc
-word_named (Load _ Sign _ _ _) _ = (refl, refl)
-word_named (Unary (Negate Bits32) _ _) _ = (refl, refl)
-word_named (Unary (Order LittleEndian swapped.Bits16) _ _) _ = (refl, refl)
-word_named (Unary (Order _ swapped.Bits16) _ _) _ = (refl, refl)
-word_named (Unary (SignExtend Bits32 extended.Bits32) _ _) there = absurd cc
-word_named (Unary (SignExtend _ extended.Bits8) _ _) _ = (refl, refl)
-word_named (Store Byte _ _ (Register _)) _ = (refl, refl)
-word_named (Store _ _ _ (Register _)) _ = (refl, refl)
-word_named (JumpIf Bits32 Equal _ _ _) _ = (refl, refl)
-word_named (JumpIf _ Equal _ _ _) _ = (refl, refl)
-word_named (Jump (Short _)) _ = (refl, refl)
-word_named _ _ = (refl, refl)
+word_named i there = grind arith

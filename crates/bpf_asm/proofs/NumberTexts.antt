@@ -1,28 +1,26 @@
 -- Numbers and distances read back as they were written.
-use Rattle.std.proofs.Common.{◌≡◌, ℕ, zero, suc, ◌^◌, ◌<◌, ℤ, pos, negsuc, true, false, ◌||◌, ◌==◌, not, min, List, []}
-use Rattle.std.proofs.Common.{◌∷◌, length, get_or, Some, refl, ap, ◌∙◌, arith, leb, slice_index, decimal}
+use Rattle.std.proofs.Common.{◌≡◌, ℕ, zero, suc, ◌^◌, ◌<◌, ℤ, pos, negsuc, true, ◌||◌, ◌==◌, not, min, List, [], ◌∷◌}
+use Rattle.std.proofs.Common.{length, get_or, Some, refl, ap, arith, slice_index, decimal}
 use Rattle.std.specs.{Int.IsInRange, List.list_all, Char.is_ascii_digit, Fmt.signed_decimal, Str.Parse.AllDigits}
 use Rattle.std.specs.Str.Parse.{digits_value}
-use Rattle.std.proofs.lemmas.Bool.{and_from, le-leb, lt-ltb, ne_eqb, or_right}
+use Rattle.std.proofs.lemmas.Bool.{le-leb, lt-ltb, ne_eqb, or_right}
 use Rattle.std.proofs.lemmas.Fmt.{decimal_is_IsNumeral, decimal_digit, first_decimal}
 use Rattle.std.proofs.lemmas.Str.Parse.{digit_from_value, digit_at}
-use Rattle.bpf_asm.specs.Numbers.{is_digits, is_natural, natural, positive, negative, written_number, distance_of}
-use Rattle.bpf_asm.specs.Numbers.{distance_text}
+use Rattle.bpf_asm.specs.Numbers.{is_digits, natural, negative, written_number, distance_of, distance_text}
 
 -- ---- digits
 
 digit_is : (c : ℕ) → IsInRange 48 57 c → is_ascii_digit c ≡ true
-digit_is c range = and_from (leb 48 c) (leb c 57) (le-leb 48 c range.0) (le-leb c 57 range.1)
+digit_is c range = grind (arith, le-leb)
 
 all_digits : (ds : List ℕ) → AllDigits 10 ds → list_all is_ascii_digit ds ≡ true
 all_digits [] all = refl
-all_digits (c ∷ ds) all = and_from (is_ascii_digit c) (list_all is_ascii_digit ds)
-    (digit_is c (digit_from_value c all.0)) (all_digits ds all.1)
+all_digits (c ∷ ds) all = rw (digit_is c (digit_from_value c all.0), all_digits ds all.1)
 
 pub decimal_digits : (n : ℕ) → n < 2 ^ 64 → is_digits (decimal n) ≡ true
 decimal_digits n small =
     let numeral = (decimal_is_IsNumeral n small).0 in
-    and_from _ _ (lt-ltb 0 (length (decimal n)) numeral.0) (all_digits (decimal n) numeral.1)
+    rw (lt-ltb 0 (length (decimal n)) numeral.0, all_digits (decimal n) numeral.1)
 
 pub decimal_first : (n : ℕ) → n < 2 ^ 64 → IsInRange 48 57 (get_or (decimal n) 0 0)
 decimal_first n small = let numeral = (decimal_is_IsNumeral n small).0 in digit_at (decimal n) 0 numeral.1 numeral.0
@@ -32,16 +30,14 @@ decimal_natural : (n : ℕ) → n < 2 ^ 64 → ((length (decimal n) == 1) || not
 decimal_natural zero small = rw (decimal_digit 0 (omega arith))
 decimal_natural (suc n) small =
     let first = first_decimal (suc n) (omega arith) small in
-    or_right (length (decimal (suc n)) == 1) _ (ap not
-    (ne_eqb (get_or (decimal (suc n)) 0 0) 48 (λ e. omega arith)))
+    let other = ne_eqb (get_or (decimal (suc n)) 0 0) 48 (λ e. omega arith) in
+    or_right (length (decimal (suc n)) == 1) _ (ap not other)
 
 pub natural_decimal : (n : ℕ) → n < 2 ^ 64 → natural (decimal n) ≡ Some n
 natural_decimal n small =
-    let is : is_natural (decimal n) ≡ true =
-    and_from (is_digits (decimal n)) _ (decimal_digits n small) (decimal_natural n small) in
     let value : digits_value 10 (decimal n) ≡ n = (decimal_is_IsNumeral n small).1 in
     let capped : min (digits_value 10 (decimal n)) (2 ^ 64) ≡ n = omega arith in
-    rw (is, capped)
+    rw (decimal_digits n small, decimal_natural n small, capped)
 
 -- ---- signs
 
@@ -52,17 +48,16 @@ Fits m (negsuc n) = n < m
 
 pub natural_again : (n : ℕ) → n < 2 ^ 64 → written_number (decimal n) ≡ Some (pos n)
 natural_again n small =
-    let none : (slice_index (decimal n) 0 == 45) ≡ false =
-    ne_eqb (get_or (decimal n) 0 0) 45 (λ e. omega (arith, (decimal_first n small).0)) in
-    rw (none, natural_decimal n small)
+    let first = (decimal_first n small).0 in
+    rw (ne_eqb (get_or (decimal n) 0 0) 45 (λ e. omega arith), natural_decimal n small)
 
 negative_some : (n : ℕ) → negative (Some (suc n)) ≡ Some (negsuc n)
 negative_some n = rw (ne_eqb (suc n) 0 (λ e. omega arith))
 
 pub number_again : (m : ℕ) (z : ℤ) → m < 2 ^ 64 → Fits m z → written_number (signed_decimal z) ≡ Some z
 number_again m (pos n) below fits = natural_again n (omega arith)
-number_again m (negsuc n) below fits = ap negative (natural_decimal (suc n) (omega arith)) ∙ negative_some n
+number_again m (negsuc n) below fits = rw (natural_decimal (suc n) (omega arith)) (negative_some n)
 
 pub distance_again : (m : ℕ) (z : ℤ) → m < 2 ^ 64 → Fits m z → distance_of (distance_text z) ≡ Some z
-distance_again m (pos n) below fits = ap positive (natural_decimal n (omega arith))
-distance_again m (negsuc n) below fits = ap negative (natural_decimal (suc n) (omega arith)) ∙ negative_some n
+distance_again m (pos n) below fits = rw (natural_decimal n (omega arith))
+distance_again m (negsuc n) below fits = rw (natural_decimal (suc n) (omega arith)) (negative_some n)

@@ -1,10 +1,10 @@
 -- Operands read back as they were written.
-use Rattle.std.proofs.Common.{◌≡◌, ℕ, suc, ◌+◌, ◌-◌, ◌^◌, ◌<◌, ◌≤◌, ℤ, pos, negsuc, true, false, ◌==◌, List, [], ◌∷◌}
-use Rattle.std.proofs.Common.{◌++◌, length, get_or, Ok, refl, sym, ap, ◌∙◌, arith, leb, slice_index, decimal}
-use Rattle.std.specs.{Fmt.signed_decimal, List.position_or_len}
+use Rattle.std.proofs.Common.{◌≡◌, ℕ, suc, ◌-◌, ◌^◌, ◌<◌, ◌≤◌, ℤ, pos, negsuc, true, false, ◌==◌, List, [], ◌∷◌, ◌++◌}
+use Rattle.std.proofs.Common.{length, Ok, refl, sym, ap, ◌∙◌, arith, slice_index, decimal}
+use Rattle.std.specs.{Fmt.signed_decimal}
 use Rattle.std.proofs.Math.Seq.{take-append_seam, drop-append_seam, get_or-append_seam}
 use Rattle.std.proofs.lemmas.List.{append_assoc, length-append}
-use Rattle.std.proofs.lemmas.Bool.{and_from, le-leb, ne_eqb}
+use Rattle.std.proofs.lemmas.Bool.{le-leb, ne_eqb}
 use Rattle.machine_spec.specs.declared.instruction.Source.TheVariants.{Register, Immediate}
 use Rattle.bpf_asm.specs.Numbers.{distance_text, is_in}
 use Rattle.bpf_asm.specs.Operands.{read_register, register_text, read_immediate, read_wide, read_short, read_long}
@@ -23,8 +23,7 @@ register_again r small =
 -- ---- numbers and distances
 
 is_in_half : (h : ℕ) (z : ℤ) → Fits (suc h) z → is_in (negsuc h) (pos h) z ≡ true
-is_in_half h (pos n) fits = le-leb n h (omega arith)
-is_in_half h (negsuc n) fits = and_from (leb n h) true (le-leb n h (omega arith)) refl
+is_in_half h z fits = grind (arith, le-leb)
 
 pub immediate_again : (z : ℤ) → Fits (2 ^ 31) z → read_immediate (signed_decimal z) ≡ Ok z
 immediate_again z fits = rw (number_again (2 ^ 31) z (omega arith) fits, is_in_half (2 ^ 31 - 1) z fits)
@@ -45,9 +44,7 @@ pub register_source : (r : ℕ) → r ≤ 10 → read_source (register_text r) �
 register_source r small = rw (register_again r small)
 
 other_first : (z : ℤ) → Fits (2 ^ 31) z → (slice_index (signed_decimal z) 0 == 114) ≡ false
-other_first (pos n) fits = ne_eqb (get_or (decimal n) 0 0) 114
-    (λ e. omega (arith, (decimal_first n (omega arith)).1))
-other_first (negsuc n) fits = refl
+other_first z fits = grind (arith, ne_eqb, decimal_first)
 
 pub immediate_source : (z : ℤ) → Fits (2 ^ 31) z → read_source (signed_decimal z) ≡ Ok (Immediate z)
 immediate_source z fits = rw (other_first z fits, immediate_again z fits)
@@ -57,10 +54,9 @@ immediate_source z fits = rw (other_first z fits, immediate_again z fits)
 -- what is between brackets is read
 bracketed : (inner : List ℕ) → read_place (91 ∷ (inner ++ 93 ∷ [])) ≡ read_between inner
 bracketed inner =
-    let size : length (inner ++ 93 ∷ []) ≡ length inner + 1 = length-append inner (93 ∷ []) in
-    let last : length (91 ∷ (inner ++ 93 ∷ [])) - 1 ≡ suc (length inner) = omega arith in
-    let closes : (slice_index (91 ∷ (inner ++ 93 ∷ [])) (length (91 ∷ (inner ++ 93 ∷ [])) - 1) == 93) ≡ true =
-    rw (last, get_or-append_seam inner 93 [] 0) in
+    let text = 91 ∷ (inner ++ 93 ∷ []) in
+    let last : length text - 1 ≡ suc (length inner) = omega (arith, length-append inner (93 ∷ [])) in
+    let closes : (slice_index text (length text - 1) == 93) ≡ true = rw (last, get_or-append_seam inner 93 [] 0) in
     rw (closes, last, take-append_seam inner (93 ∷ []))
 
 -- a register up to the sign of the distance
@@ -68,8 +64,7 @@ signed_between : (base : ℕ) (sign : ℕ) (digits : List ℕ) (offset : ℤ) �
     read_short (sign ∷ digits) ≡ Ok offset → read_between (register_text base ++ sign ∷ digits) ≡ Ok (base, offset)
 signed_between base sign digits offset small is reads =
     let text = register_text base in
-    let place : position_or_len is_sign (text ++ sign ∷ digits) ≡ length text =
-    first_at is_sign text sign digits (register_unsigned base (omega arith)) is in
+    let place = first_at is_sign text sign digits (register_unsigned base (omega arith)) is in
     rw (place, take-append_seam text (sign ∷ digits), drop-append_seam text (sign ∷ digits), reads)
     (rw (register_again base small))
 

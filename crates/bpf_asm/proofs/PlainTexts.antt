@@ -1,8 +1,8 @@
 -- Texts in which no byte parts a line: no space, no comma and no line feed.
-use Rattle.std.proofs.Common.{◌≡◌, ℕ, suc, ◌+◌, ◌^◌, ◌<◌, ◌≤◌, ℤ, pos, negsuc, Bool, true, false, ◌&&◌, ◌==◌, not}
-use Rattle.std.proofs.Common.{List, [], ◌∷◌, ◌++◌, length, refl, arith, leb, decimal}
+use Rattle.std.proofs.Common.{◌≡◌, ℕ, suc, ◌^◌, ◌<◌, ◌≤◌, ℤ, pos, negsuc, Bool, true, false, ◌&&◌, ◌==◌, not, List, []}
+use Rattle.std.proofs.Common.{◌∷◌, ◌++◌, length, refl, arith, decimal}
 use Rattle.std.specs.{Char.is_ascii_digit, Fmt.signed_decimal, List.list_all, List.position_or_len}
-use Rattle.std.proofs.lemmas.Bool.{and_from, and_parts, ne_eqb, leb-true}
+use Rattle.std.proofs.lemmas.Bool.{and_parts, ne_eqb, leb-true}
 use Rattle.std.proofs.{lemmas.List.Folds.list_all-append, lemmas.Fmt.decimal_nonempty}
 use Rattle.bpf_asm.specs.Numbers.{distance_text}
 use Rattle.bpf_asm.specs.Operands.{register_text, place_text, is_sign}
@@ -16,30 +16,21 @@ fails p text = list_all (λ b. not (p b)) text
 pub first_at : (p : ℕ → Bool) (xs : List ℕ) (y : ℕ) (ys : List ℕ) → fails p xs ≡ true → p y ≡ true →
     position_or_len p (xs ++ y ∷ ys) ≡ length xs
 first_at p [] y ys e is = rw is
-first_at p (x ∷ xs) y ys e is =
-    let parts = and_parts (not (p x)) (fails p xs) e in
-    let rest = first_at p xs y ys parts.1 is in
-    rw parts.0 (omega arith)
+first_at p (x ∷ xs) y ys e is = grind (arith, and_parts, first_at p xs y ys)
 
 pub first_none : (p : ℕ → Bool) (xs : List ℕ) → fails p xs ≡ true → position_or_len p xs ≡ length xs
 first_none p [] e = refl
-first_none p (x ∷ xs) e =
-    let parts = and_parts (not (p x)) (fails p xs) e in
-    let rest = first_none p xs parts.1 in
-    rw parts.0 (omega arith)
+first_none p (x ∷ xs) e = grind (arith, and_parts, first_none p xs)
 
 -- a test that holds of each byte of which another one does
 pub implied : (p q : ℕ → Bool) → ((b : ℕ) → p b ≡ true → q b ≡ true) → (xs : List ℕ) → list_all p xs ≡ true →
     list_all q xs ≡ true
 implied p q h [] e = refl
-implied p q h (x ∷ xs) e = let parts = and_parts (p x) (list_all p xs) e in
-    and_from (q x) (list_all q xs) (h x parts.0) (implied p q h xs parts.1)
+implied p q h (x ∷ xs) e = grind (arith, and_parts, implied p q h xs, h x)
 
 -- a byte at most 47 is no digit
 digit_other : (c b : ℕ) → c ≤ 47 → is_ascii_digit b ≡ true → (b == c) ≡ false
-digit_other c b low digit =
-    let parts = and_parts (leb 48 b) (leb b 57) digit in
-    ne_eqb b c (λ e. omega (arith, leb-true 48 b parts.0))
+digit_other c b low digit = grind (arith, and_parts, leb-true, ne_eqb)
 
 digit_unsigned : (b : ℕ) → is_ascii_digit b ≡ true → not (is_sign b) ≡ true
 digit_unsigned b digit = rw (digit_other 43 b (omega arith) digit, digit_other 45 b (omega arith) digit)
@@ -82,25 +73,19 @@ number_operand (pos n) fits = natural_operand n (omega arith)
 number_operand (negsuc n) fits = record { plain = plain_digits (suc n) (omega arith); some = omega arith }
 
 plain_distance : (m : ℕ) (z : ℤ) → m < 2 ^ 64 → Fits m z → are_plain (distance_text z) ≡ true
-plain_distance m (pos n) below fits = plain_digits n (omega arith)
-plain_distance m (negsuc n) below fits = plain_digits (suc n) (omega arith)
-
-some_distance : (z : ℤ) → 0 < length (distance_text z)
-some_distance (pos n) = omega arith
-some_distance (negsuc n) = omega arith
+plain_distance m z below fits = grind (arith, plain_digits)
 
 pub distance_operand : (m : ℕ) (z : ℤ) → m < 2 ^ 64 → Fits m z → IsOperand (distance_text z)
-distance_operand m z below fits = record { plain = plain_distance m z below fits; some = some_distance z }
+distance_operand m z below fits = record { plain = plain_distance m z below fits; some = grind arith }
 
 pub both_plain : (xs ys : List ℕ) → are_plain xs ≡ true → are_plain ys ≡ true → are_plain (xs ++ ys) ≡ true
 both_plain xs ys one other = rw (list_all-append is_plain xs ys, one, other)
 
 pub place_operand : (base : ℕ) (offset : ℤ) → base ≤ 10 → Fits (2 ^ 15) offset → IsOperand (place_text base offset)
 place_operand base offset small fits =
-    let distance = both_plain (distance_text offset) (93 ∷ []) (plain_distance (2 ^ 15) offset (omega arith) fits)
-    refl in
+    let register = plain_digits base (omega arith) in
+    let distance = plain_distance (2 ^ 15) offset (omega arith) fits in
     record {
-      plain = both_plain (register_text base) (distance_text offset ++ 93 ∷ []) (plain_digits base (omega arith))
-          distance;
+      plain = both_plain (register_text base) _ register (both_plain (distance_text offset) (93 ∷ []) distance refl);
       some = omega arith;
     }

@@ -1,18 +1,16 @@
 -- What a slot of an image can hold: the forms that there are, and the ranges of their numbers.
-use Rattle.std.proofs.Common.{IfSome, ◌≡◌, ℕ, ◌+◌, ◌*◌, ◌^◌, ◌<◌, ◌%◌, ℤ, pos, negsuc, Bool, true, false, List, [], ◌∷◌}
-use Rattle.std.proofs.Common.{Option, Some, None, Ok, refl, sym, subst, arith, ◌==◌, cond, FitsSigned, find}
+use Rattle.std.proofs.Common.{IfSome, ◌≡◌, ℕ, ◌+◌, ◌*◌, ◌^◌, ◌<◌, ℤ, pos, Bool, true, false, List, [], ◌∷◌, Option}
+use Rattle.std.proofs.Common.{Some, None, Ok, refl, sym, subst, arith, ◌==◌, cond, FitsSigned, find}
 use Rattle.std.specs.{List.list_all, Ordering.int_eq}
 use Rattle.std.specs.Int.{w16, w32, from_le_bytes, cast_unsigned}
 use Rattle.std.proofs.{Math.Facts.sfits_to_z, lemmas.Bool.and_parts, lemmas.Int.of_z-to_z, lemmas.Option.same_Some}
-use Rattle.std.proofs.lemmas.Option.{none-some}
 use Rattle.machine_spec.specs.declared.{operation.Width.Width, operation.ExtendedWidth.ExtendedWidth}
 use Rattle.machine_spec.specs.declared.{operation.Change.Change, instruction.Size.Size, instruction.Extension.Extension}
 use Rattle.machine_spec.specs.declared.{instruction.Distance.Distance, instruction.Source.Source}
 use Rattle.machine_spec.specs.declared.{instruction.Instruction.Instruction, opcode.TheConstants.TEMPLATES}
-use Rattle.machine_spec.specs.declared.{operation.Operation.TheVariants.Add, operation.Width.TheVariants.Bits32}
-use Rattle.machine_spec.specs.declared.{instruction.Size.TheVariants.Double, instruction.Extension.TheVariants.Sign}
-use Rattle.machine_spec.specs.declared.operation.Change.TheVariants.{Negate, Order, SignExtend}
-use Rattle.machine_spec.specs.declared.operation.SwappedWidth.TheVariants as swapped
+use Rattle.machine_spec.specs.declared.{operation.Width.TheVariants.Bits32, instruction.Size.TheVariants.Double}
+use Rattle.machine_spec.specs.declared.{instruction.Extension.TheVariants.Sign}
+use Rattle.machine_spec.specs.declared.operation.Change.TheVariants.{Order, SignExtend}
 use Rattle.machine_spec.specs.declared.operation.ExtendedWidth.TheVariants as extended
 use Rattle.machine_spec.specs.declared.instruction.Distance.TheVariants.{Short, Long}
 use Rattle.machine_spec.specs.declared.instruction.Source.TheVariants.{Register, Immediate}
@@ -22,7 +20,7 @@ use Rattle.machine_spec.specs.Opcodes.{Fields, opcode_of, is_other_kind, templat
 use Rattle.machine_spec.specs.Opcodes.{extended_by, extending, swapped_by, with_fields}
 use Rattle.machine_spec.specs.Image.{byte_at, word_at, upper_at, fields_at, read_slot}
 use Rattle.bpf_isa.specs.Code.{AreBytes}
-use Rattle.bpf_isa.specs.Spelling.{source_imm, spelled_fields, HasRegisters}
+use Rattle.bpf_isa.specs.Spelling.{spelled_fields, HasRegisters}
 use Rattle.bpf_isa.proofs.{Bytes.slot_read, Bytes.second, Cases.on_choice, Cases.all_made}
 use Rattle.bpf_asm.proofs.NumberTexts.{Fits}
 
@@ -78,12 +76,10 @@ pub record IsHeld (i : Instruction) : Type 0 where
 -- ---- the fields of a slot
 
 fits_16 : (z : ℤ) → FitsSigned w16 z → Fits (2 ^ 15) z
-fits_16 (pos n) fits = fits.sfits
-fits_16 (negsuc n) fits = fits.sfits
+fits_16 z fits = grind (arith, fits.sfits)
 
 fits_32 : (z : ℤ) → FitsSigned w32 z → Fits (2 ^ 31) z
-fits_32 (pos n) fits = fits.sfits
-fits_32 (negsuc n) fits = fits.sfits
+fits_32 z fits = grind (arith, fits.sfits)
 
 pub record AreRanged (f : Fields) : Type 0 where
   pub offset : Fits (2 ^ 15) f.offset
@@ -98,8 +94,7 @@ upper_small image slot upper fits e =
 
 upper_of : (image : List ℕ) (slot upper : ℕ) (b : Bool) → AreBytes image →
     cond b (upper_at image (slot + 1)) None ≡ Some upper → upper < 2 ^ 32
-upper_of image slot upper true fits e = upper_small image (slot + 1) upper fits e
-upper_of image slot upper false fits e = absurd (none-some upper e)
+upper_of image slot upper b fits e = grind (arith, upper_small image (slot + 1) upper fits)
 
 fields_ranged : (image : List ℕ) (slot : ℕ) → AreBytes image → AreRanged (fields_at image slot)
 fields_ranged image slot fits =
@@ -118,43 +113,29 @@ fields_ranged image slot fits =
 
 module _ (f : Fields) (ranged : AreRanged f) where
   source_ranged : (source : Source) → RangedSource (filled_source source f)
-  source_ranged (Register _) = tt
-  source_ranged (Immediate _) = ranged.imm
+  source_ranged source = grind (arith, ranged)
 
   extends_held : (width : Width) (part : Option ExtendedWidth) → IfSome (extending width f.dst f.src part) IsHeld
-  extends_held Bits32 (Some extended.Bits32) = tt
-  extends_held Bits32 (Some extended.Bits16) = record { form = refl; ranged = tt }
-  extends_held _ (Some _) = record { form = refl; ranged = tt }
-  extends_held _ None = tt
+  extends_held width part = grind arith
 
   moves_held : (width : Width) (zero_offset : Bool) →
       IfSome (cond zero_offset (Some (Move width f.dst (Register f.src)))
       (extending width f.dst f.src (extended_by f.offset))) IsHeld
-  moves_held width true = record { form = refl; ranged = tt }
-  moves_held width false = extends_held width (extended_by f.offset)
+  moves_held width zero_offset = grind (arith, extends_held)
 
   filled_held : (template : Instruction) → is_form template ≡ true → IfSome (with_fields template f) IsHeld
   filled_held (Move width _ (Register _)) form = moves_held width (int_eq f.offset (pos 0))
-  filled_held (Move width _ (Immediate _)) form = record { form = refl; ranged = ranged.imm }
   filled_held (Compute width operation _ source) form =
       all_made (λ o. Compute width o f.dst (filled_source source f)) IsHeld (chosen_operation operation f.offset)
       (λ _ _. record { form = refl; ranged = source_ranged source })
-  filled_held (Load size extension _ _ _) form = record { form = form; ranged = ranged.offset }
-  filled_held (Unary (Negate width) _ _) form = record { form = refl; ranged = refl }
   filled_held (Unary (Order order _) _ _) form =
       all_made (λ w. Unary (Order order w) f.dst f.dst) IsHeld (swapped_by f.imm)
       (λ _ _. record { form = refl; ranged = refl })
   filled_held (Unary (SignExtend width _) _ _) form = moves_held width (int_eq f.offset (pos 0))
-  filled_held (Store size _ _ source) form = record { form = refl; ranged = (ranged.offset, source_ranged source) }
-  filled_held (JumpIf width test _ source _) form =
-      record { form = refl; ranged = (source_ranged source, ranged.offset) }
-  filled_held (Jump (Short _)) form = record { form = refl; ranged = ranged.offset }
-  filled_held (Jump (Long _)) form = record { form = refl; ranged = ranged.imm }
   filled_held (Wide _ _) form =
       all_made (λ u. Wide f.dst (u * 2 ^ 32 + cast_unsigned w32 f.imm)) IsHeld f.upper
       (λ u at. let below = ranged.upper u at in record { form = refl; ranged = omega arith })
-  filled_held (Call _) form = record { form = refl; ranged = ranged.imm }
-  filled_held Exit form = record { form = refl; ranged = tt }
+  filled_held _ form = grind (arith, ranged, source_ranged)
 
 -- ---- the templates
 
@@ -162,10 +143,7 @@ module _ (f : Fields) (ranged : AreRanged f) where
 pub found_passes : {A : Type 0} (p q : A → Bool) (xs : List A) (x : A) → list_all q xs ≡ true → find p xs ≡ Some x →
     q x ≡ true
 found_passes p q [] x all e = absurd cc
-found_passes p q (y ∷ xs) x all e =
-    let parts = and_parts (q y) (list_all q xs) all in
-    on_choice (p y) (Some y) (find p xs) (Some x) (q x ≡ true) e
-    (λ _ e. subst (λ z. q z ≡ true) (same_Some y x e) parts.0) (λ _ e. found_passes p q xs x parts.1 e)
+found_passes p q (y ∷ xs) x all e = grind (arith, and_parts, same_Some, found_passes p q xs x)
 
 template_form : (f : Fields) (template : Instruction) → template_of f ≡ Some template → is_form template ≡ true
 unfolding template_of
@@ -193,23 +171,5 @@ pub record FitSlots (f : Fields) : Type 0 where
   pub offset : Fits (2 ^ 15) f.offset
   pub imm : Fits (2 ^ 31) f.imm
 
-source_fits : (source : Source) → RangedSource source → Fits (2 ^ 31) (source_imm source)
-source_fits (Register _) ranged = omega arith
-source_fits (Immediate imm) ranged = ranged
-
 pub spelled_fit : (i : Instruction) → Ranged i → FitSlots (spelled_fields i)
-spelled_fit (Move _ _ source) ranged = record { offset = omega arith; imm = source_fits source ranged }
-spelled_fit (Compute _ Add _ source) ranged = record { offset = omega arith; imm = source_fits source ranged }
-spelled_fit (Compute _ _ _ source) ranged = record { offset = omega arith; imm = source_fits source ranged }
-spelled_fit (Load _ _ _ _ _) ranged = record { offset = ranged; imm = omega arith }
-spelled_fit (Unary (Order _ swapped.Bits16) _ _) ranged = record { offset = omega arith; imm = omega arith }
-spelled_fit (Unary (SignExtend _ extended.Bits8) _ _) ranged = record { offset = omega arith; imm = omega arith }
-spelled_fit (Store _ _ _ source) ranged = record { offset = ranged.0; imm = source_fits source ranged.1 }
-spelled_fit (JumpIf _ _ _ source _) ranged = record { offset = ranged.1; imm = source_fits source ranged.0 }
-spelled_fit (Jump (Short _)) ranged = record { offset = ranged; imm = omega arith }
-spelled_fit (Jump (Long _)) ranged = record { offset = omega arith; imm = ranged }
-spelled_fit (Wide _ n) ranged =
-    let lower : n % 2 ^ 32 < 2 ^ 32 = omega arith in
-    record { offset = omega arith; imm = fits_32 _ (sfits_to_z {w = w32} (record { fits = lower })) }
-spelled_fit (Call _) ranged = record { offset = omega arith; imm = ranged }
-spelled_fit _ ranged = record { offset = omega arith; imm = omega arith }
+spelled_fit i ranged = grind arith

@@ -1,8 +1,8 @@
 -- The instruction of a line is one that an image can have: its form is one of the profile's, its registers are r0 to
 -- r10 and its numbers lie in their ranges.
 use Rattle.std.proofs.Common.{IfSome, ◌≡◌, ℕ, ◌+◌, ◌-◌, ◌^◌, ◌<◌, ◌≤◌, ℤ, pos, negsuc, Bool, true, false, cond, List}
-use Rattle.std.proofs.Common.{[], ◌∷◌, IfOk, length, take, Option, Some, None, Result, Ok, Err, refl, subst, arith, leb}
-use Rattle.std.proofs.Common.{drop, slice_index, unsigned_abs, ◌&&◌, ◌==◌}
+use Rattle.std.proofs.Common.{[], ◌∷◌, IfOk, length, take, Option, Some, None, Result, Ok, Err, refl, arith, drop}
+use Rattle.std.proofs.Common.{slice_index, ◌&&◌, ◌==◌}
 use Rattle.std.specs.{Str.bytes_eq, List.position_or_len, List.before_first}
 use Rattle.std.proofs.lemmas.Bool.{leb-true, and_parts}
 use Rattle.machine_spec.specs.declared.{operation.Width.Width, operation.Test.Test, operation.Change.Change}
@@ -15,10 +15,10 @@ use Rattle.machine_spec.specs.declared.instruction.Instruction.TheVariants.{Jump
 use Rattle.bpf_isa.specs.Spelling.{HasRegisters, source_register, spelled_fields, changed_register}
 use Rattle.bpf_asm.specs.{declared.fault.LineFault.LineFault, Faults.both, Faults.read_as}
 use Rattle.bpf_asm.specs.declared.fault.LineFault.TheVariants as fault
-use Rattle.bpf_asm.specs.Numbers.{is_digits, natural, written_number, distance_of, is_in}
+use Rattle.bpf_asm.specs.Numbers.{written_number, distance_of}
 use Rattle.bpf_asm.specs.Words.{word_of, forms, form_named}
-use Rattle.bpf_asm.specs.Operands.{register_named, number_in_range, read_register, read_immediate, read_source}
-use Rattle.bpf_asm.specs.Operands.{read_place, read_between, read_wide, read_short, read_long, is_sign}
+use Rattle.bpf_asm.specs.Operands.{number_in_range, read_register, read_immediate, read_source, read_place}
+use Rattle.bpf_asm.specs.Operands.{read_between, read_wide, read_short, read_long, is_sign}
 use Rattle.bpf_asm.specs.Reading.{with_one, with_two, with_three, single, pair, triple, is_empty, read_change}
 use Rattle.bpf_asm.specs.Reading.{read_stored, read_distance, read_operands, read_form, read_trimmed, some_read}
 use Rattle.bpf_asm.specs.Reading.{read_line, operands_in, rest_of, is_space, after_spaces, before_spaces}
@@ -43,25 +43,11 @@ both_hold P Q _ _ p q = tt
 
 -- ---- operands
 
-named_small : (n : Option ℕ) → IfOk (register_named n) (λ r. r ≤ 10)
-named_small (Some n) = if_held (λ r. r ≤ 10) (leb n 10) (Ok n) (Err fault.Register) (leb-true n 10) tt
-named_small None = tt
-
 register_small : (text : List ℕ) → IfOk (read_register text) (λ r. r ≤ 10)
-register_small text = if_held (λ r. r ≤ 10) ((slice_index text 0 == 114) && is_digits (drop 1 text)) _
-    (Err fault.Operand) (λ _. named_small (natural (drop 1 text))) tt
-
-ranged_in : (low high : ℤ) (P : ℤ → Type 0) (number : Option ℤ) → ((z : ℤ) → is_in low high z ≡ true → P z) →
-    IfOk (number_in_range low high number) P
-ranged_in low high P (Some z) in_range = if_held P (is_in low high z) (Ok z) (Err fault.Number) (in_range z) tt
-ranged_in low high P None in_range = tt
-
-fits : (m : ℕ) (z : ℤ) → is_in (negsuc m) (pos m) z ≡ true → Fits (m + 1) z
-fits m (pos n) e = let small : n ≤ m = leb-true n m e in omega arith
-fits m (negsuc n) e = let small : n ≤ m = leb-true n m (and_parts (leb n m) true e).0 in omega arith
+register_small text = grind (arith, leb-true)
 
 signed_fits : (m : ℕ) (number : Option ℤ) → IfOk (number_in_range (negsuc m) (pos m) number) (Fits (m + 1))
-signed_fits m number = ranged_in (negsuc m) (pos m) (Fits (m + 1)) number (fits m)
+signed_fits m number = grind (arith, leb-true, and_parts)
 
 immediate_fits : (text : List ℕ) → IfOk (read_immediate text) (Fits (2 ^ 31))
 immediate_fits text = signed_fits (2 ^ 31 - 1) (written_number text)
@@ -69,15 +55,8 @@ immediate_fits text = signed_fits (2 ^ 31 - 1) (written_number text)
 short_fits : (text : List ℕ) → IfOk (read_short text) (Fits (2 ^ 15))
 short_fits text = signed_fits (2 ^ 15 - 1) (distance_of text)
 
-unsigned_small : (z : ℤ) → is_in (pos 0) (pos (2 ^ 64 - 1)) z ≡ true → unsigned_abs z < 2 ^ 64
-unsigned_small (pos n) e = let small : n ≤ 2 ^ 64 - 1 =
-    leb-true n (2 ^ 64 - 1) (and_parts (leb 0 n) (leb n (2 ^ 64 - 1)) e).1 in omega arith
-unsigned_small (negsuc n) e = absurd cc
-
 wide_small : (text : List ℕ) → IfOk (read_wide text) (λ n. n < 2 ^ 64)
-wide_small text =
-    made unsigned_abs (λ z. unsigned_abs z < 2 ^ 64) (λ n. n < 2 ^ 64) _ (λ _ small. small)
-    (ranged_in (pos 0) (pos (2 ^ 64 - 1)) _ (written_number text) unsigned_small)
+wide_small text = grind (arith, leb-true, and_parts)
 
 -- a source names a register, or its number is in its range
 record IsSource (s : Source) : Type 0 where
@@ -150,15 +129,15 @@ distance_said (Long _) text = made Long (Fits (2 ^ 31)) (λ distance. IsSaid (Ju
     (λ _ fit. is_said _ refl fit (omega arith) (omega arith) (omega arith))
     (signed_fits (2 ^ 31 - 1) (distance_of text))
 
+three_said : (width : Width) (test : Test) (x : Result ℕ LineFault) (y : Result Source LineFault)
+    (z : Result ℤ LineFault) → IfOk x (λ r. r ≤ 10) → IfOk y IsSource → IfOk z (Fits (2 ^ 15)) →
+    IfOk (read_as (λ p. JumpIf width test p.0.0 p.0.1 p.1) (both (both x y) z)) IsSaid
+three_said width test x y z small is fit = grind arith
+
 jump_said : (width : Width) (test : Test) (texts : Option (List ℕ × List ℕ × List ℕ)) →
     IfOk (read_as (λ p. JumpIf width test p.0.0 p.0.1 p.1)
     (with_three read_register read_source read_short texts)) IsSaid
-jump_said width test (Some t) =
-    let two = both_hold (λ r. r ≤ 10) IsSource (read_register t.0) (read_source t.1) (register_small t.0)
-    (source_is t.1) in
-    made (λ p. JumpIf width test p.0.0 p.0.1 p.1) (λ p. ((p.0.0 ≤ 10) × IsSource p.0.1) × Fits (2 ^ 15) p.1) IsSaid _
-    (λ _ is. is_said _ refl (is.0.1.ranged, is.1) is.0.0 is.0.1.register (omega arith))
-    (both_hold (λ p. (p.0 ≤ 10) × IsSource p.1) (Fits (2 ^ 15)) _ _ two (short_fits t.2))
+jump_said width test (Some t) = three_said width test _ _ _ (register_small t.0) (source_is t.1) (short_fits t.2)
 jump_said width test None = tt
 
 operands_said : (form : Instruction) (operands : List (List ℕ)) → is_form form ≡ true →
@@ -192,10 +171,6 @@ operands_said Exit operands form = if_held IsSaid (is_empty operands) (Ok Exit) 
 abbrev SaidIf : Option Instruction → Type 0
 SaidIf said = IfSome said IsSaid
 
-some_said : (r : Result Instruction LineFault) → IfOk r IsSaid → IfOk (some_read r) SaidIf
-some_said (Ok i) is = is
-some_said (Err _) is = tt
-
 -- a word's form is one of the profile's
 named_form : (word : List ℕ) (form : Instruction) → form_named word ≡ Some form → is_form form ≡ true
 unfolding form_named
@@ -204,8 +179,7 @@ named_form word form e = found_passes (λ form. bytes_eq (word_of form) word) is
 form_said : (word : List ℕ) (form : Option Instruction) (rest : Option (List ℕ)) → form_named word ≡ form →
     IfOk (some_read (read_form form rest)) SaidIf
 form_said word (Some form) rest named =
-    some_said (read_operands form (operands_in rest))
-    (operands_said form (operands_in rest) (named_form word form named))
+    grind (arith, operands_said form (operands_in rest) (named_form word form named))
 form_said word None rest named = tt
 
 trimmed_said : (line : List ℕ) → IfOk (read_trimmed line) SaidIf
@@ -217,7 +191,7 @@ trimmed_said (byte ∷ text) =
 
 pub line_said : (line : List ℕ) (i : Instruction) → read_line line ≡ Ok (Some i) → IsSaid i
 unfolding read_line
-line_said line i e = subst (λ r. IfOk r SaidIf) e (trimmed_said (before_spaces (after_spaces line)))
+line_said line i e = rw e at (trimmed_said (before_spaces (after_spaces line)))
 
 pub line_registers : (line : List ℕ) (i : Instruction) → read_line line ≡ Ok (Some i) → HasRegisters i
 line_registers line i e = (line_said line i e).registers

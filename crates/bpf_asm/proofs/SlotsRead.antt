@@ -1,18 +1,17 @@
 -- Instructions that are spelled one after another are what their bytes read as.
-use Rattle.std.proofs.Common.{SFits, ◌≡◌, ℕ, zero, suc, ◌+◌, ◌*◌, ◌/◌, ◌%◌, ◌^◌, ◌<◌, ◌≤◌, ℤ, pos, negsuc, true, ◌==◌}
-use Rattle.std.proofs.Common.{nat_lt, List, [], ◌∷◌, ◌++◌, length, map, Option, Some, Result, Ok, refl}
-use Rattle.std.proofs.Common.{ap, subst, ◌∙◌, arith, append_assoc, slice_index, flat_map}
+use Rattle.std.proofs.Common.{SFits, ◌≡◌, ℕ, zero, suc, ◌+◌, ◌*◌, ◌/◌, ◌%◌, ◌^◌, ◌<◌, ◌≤◌, ℤ, true, List, [], ◌∷◌, ◌++◌}
+use Rattle.std.proofs.Common.{length, map, Option, Some, Ok, refl, ap, arith, append_assoc, slice_index, flat_map}
 use Rattle.std.specs.Int.{w16, w32, from_le_bytes, to_le_bytes, cast_signed, cast_unsigned}
 use Rattle.std.proofs.{Math.Facts.Fits-of_z, lemmas.Nat.from_le_bytes-to_le_bytes_2}
 use Rattle.std.proofs.{lemmas.Nat.from_le_bytes-to_le_bytes_4, lemmas.Int.to_z-of_z, lemmas.List.length-append}
 use Rattle.std.proofs.lemmas.List.{get_or-append-add}
-use Rattle.std.proofs.lemmas.Bool.{and_from, lt-ltb, le-ltb, le-leb, eq-eqb}
+use Rattle.std.proofs.lemmas.Bool.{lt-ltb, le-ltb, le-leb, eq-eqb}
 use Rattle.machine_spec.specs.{declared.instruction.Instruction.Instruction, declared.instruction.Placed.Placed}
-use Rattle.machine_spec.specs.{declared.instruction.IsaFault.IsaFault, declared.limits.TheConstants.MAX_SLOTS}
-use Rattle.machine_spec.specs.{Opcodes.Fields, declared.instruction.Distance.TheVariants.Short}
+use Rattle.machine_spec.specs.{declared.limits.TheConstants.MAX_SLOTS, Opcodes.Fields}
+use Rattle.machine_spec.specs.{declared.instruction.Distance.TheVariants.Short}
 use Rattle.machine_spec.specs.declared.instruction.Instruction.TheVariants.{Jump, Wide}
 use Rattle.machine_spec.specs.Image.{slot_count, byte_at, word_at, fields_at, read_slot, first_slots_from, first_slots}
-use Rattle.machine_spec.specs.Image.{slots_of, then_placed, read_slots, has_size, read_image}
+use Rattle.machine_spec.specs.Image.{slots_of, read_slots, has_size, read_image}
 use Rattle.bpf_isa.specs.Spelling.{spelled_fields, first_bytes, second_bytes, spelling}
 use Rattle.bpf_isa.proofs.Bytes.{next_slot, some_slots}
 use Rattle.bpf_asm.proofs.{NumberTexts.Fits, Ranges.IsSaid, Ranges.spelled_fit}
@@ -22,22 +21,20 @@ use Rattle.bpf_asm.proofs.FieldsRead.{with_upper, narrow_read, wide_read}
 
 -- numbers as bytes and back
 signed_16 : (z : ℤ) → Fits (2 ^ 15) z → SFits w16 z
-signed_16 (pos n) fits = record { sfits = fits }
-signed_16 (negsuc n) fits = record { sfits = fits }
+signed_16 z fits = grind arith
 
 signed_32 : (z : ℤ) → Fits (2 ^ 31) z → SFits w32 z
-signed_32 (pos n) fits = record { sfits = fits }
-signed_32 (negsuc n) fits = record { sfits = fits }
+signed_32 z fits = grind arith
 
 half_again : (z : ℤ) → Fits (2 ^ 15) z → cast_signed w16 (from_le_bytes w16 (to_le_bytes w16 (cast_unsigned w16 z))) ≡ z
 half_again z fits =
-    ap (cast_signed w16) (from_le_bytes-to_le_bytes_2 (cast_unsigned w16 z)
-    (Fits-of_z {w = w16} (signed_16 z fits)).fits) ∙ to_z-of_z w16 z (signed_16 z fits)
+    let small = signed_16 z fits in
+    rw (from_le_bytes-to_le_bytes_2 _ (Fits-of_z {w = w16} small).fits) (to_z-of_z w16 z small)
 
 word_again : (z : ℤ) → Fits (2 ^ 31) z → cast_signed w32 (from_le_bytes w32 (to_le_bytes w32 (cast_unsigned w32 z))) ≡ z
 word_again z fits =
-    ap (cast_signed w32) (from_le_bytes-to_le_bytes_4 (cast_unsigned w32 z)
-    (Fits-of_z {w = w32} (signed_32 z fits)).fits) ∙ to_z-of_z w32 z (signed_32 z fits)
+    let small = signed_32 z fits in
+    rw (from_le_bytes-to_le_bytes_4 _ (Fits-of_z {w = w32} small).fits) (to_z-of_z w32 z small)
 
 -- a byte of a slot that begins after others
 byte_there : (front bytes : List ℕ) (slot k : ℕ) → length front ≡ 8 * slot →
@@ -63,23 +60,17 @@ fields_there front rest slot i long said =
     let registers : byte_at (front ++ bytes) slot 1 ≡ f.dst + 16 * f.src = there 1 in
     let small = said.registers.dst in
     let fit = spelled_fit i said.held.ranged in
-    let offset : from_le_bytes w16 (byte_at (front ++ bytes) slot 2 ∷ byte_at (front ++ bytes) slot 3 ∷ [])
-    ≡ from_le_bytes w16
-    (to_le_bytes w16 (cast_unsigned w16 f.offset)) = rw (there 2, there 3) refl in
-    let imm : word_at (front ++ bytes) slot 4 ≡ from_le_bytes w32 (to_le_bytes w32 (cast_unsigned w32 f.imm)) =
-    rw (there 4, there 5, there 6, there 7) refl in
-    same_fields f _ _ _ _ _ (fields_at (front ++ bytes) slot).upper (there 0) (omega arith)
-    (omega arith)
-    (ap (cast_signed w16) offset ∙ half_again f.offset fit.offset) (ap (cast_signed w32) imm ∙ word_again f.imm fit.imm)
+    same_fields f _ _ _ _ _ (fields_at (front ++ bytes) slot).upper (there 0) (omega arith) (omega arith)
+    (rw (there 2, there 3) (half_again f.offset fit.offset))
+    (rw (there 4, there 5, there 6, there 7) (word_again f.imm fit.imm))
 
 -- an instruction of one slot is read there
 narrow_there : (front rest : List ℕ) (slot : ℕ) (i : Instruction) → length front ≡ 8 * slot → IsSaid i → slots_of i ≡ 1
     → read_slot (front ++ (spelling i ++ rest)) slot ≡ Ok i
 unfolding read_slot
 narrow_there front rest slot i long said one =
-    let upper = (fields_at (front ++ (spelling i ++ rest)) slot).upper in
     rw (fields_there front rest slot i long said)
-    (narrow_read slot upper i said.held.form said.held.ranged said.registers one)
+    (narrow_read slot _ i said.held.form said.held.ranged said.registers one)
 
 -- a byte of the slot after it
 byte_after : (front bytes : List ℕ) (slot k : ℕ) → length front ≡ 8 * slot →
@@ -99,26 +90,17 @@ upper_there front rest slot dst n long small =
     let after = λ (k : ℕ). byte_after front bytes slot k long in
     let opcode : byte_at image slot 0 ≡ 0x18 = byte_there front bytes slot 0 long in
     let zeros : word_at image (slot + 1) 0 ≡ 0 = rw (after 0, after 1, after 2, after 3) refl in
-    let half : word_at image (slot + 1) 4 ≡ from_le_bytes w32 (to_le_bytes w32 (n / 2 ^ 32)) =
-    rw (after 4, after 5, after 6, after 7) refl in
-    let size = length-append front bytes in
     let two : 16 ≤ length bytes = omega arith in
-    let within : slot + 1 < slot_count image = omega arith in
-    let is = and_from (nat_lt (slot + 1) (slot_count image)) (word_at image (slot + 1) 0 == 0) (lt-ltb _ _ within)
-    (eq-eqb _ _ zeros) in
-    rw (eq-eqb (byte_at image slot 0) 0x18 opcode, is)
-    (ap Some (half ∙ from_le_bytes-to_le_bytes_4 (n / 2 ^ 32) (omega arith)))
-
-wide_there : (front rest : List ℕ) (slot dst n : ℕ) → length front ≡ 8 * slot → IsSaid (Wide dst n)
-    → read_slot (front ++ (spelling (Wide dst n) ++ rest)) slot ≡ Ok (Wide dst n)
-unfolding read_slot
-wide_there front rest slot dst n long said =
-    rw (fields_there front rest slot (Wide dst n) long said, upper_there front rest slot dst n long said.held.ranged)
-    (wide_read slot dst n said.held.ranged said.registers.dst)
+    let within : slot + 1 < slot_count image = omega (arith, length-append front bytes) in
+    rw (eq-eqb (byte_at image slot 0) 0x18 opcode, lt-ltb _ _ within, eq-eqb _ _ zeros)
+    (rw (after 4, after 5, after 6, after 7, from_le_bytes-to_le_bytes_4 (n / 2 ^ 32) (omega arith)))
 
 slot_there : (front rest : List ℕ) (slot : ℕ) (i : Instruction) → length front ≡ 8 * slot → IsSaid i →
     read_slot (front ++ (spelling i ++ rest)) slot ≡ Ok i
-slot_there front rest slot (Wide dst n) long said = wide_there front rest slot dst n long said
+unfolding read_slot
+slot_there front rest slot (Wide dst n) long said =
+    rw (fields_there front rest slot (Wide dst n) long said, upper_there front rest slot dst n long said.held.ranged)
+    (wide_read slot dst n said.held.ranged said.registers.dst)
 slot_there front rest slot i long said = narrow_there front rest slot i long said refl
 
 -- ---- all slots
@@ -138,7 +120,7 @@ placed_from slot (i ∷ is) = record { slot = slot; instruction = i } ∷ placed
 pub placed_instructions : (slot : ℕ) (is : List Instruction) →
     map (λ placed. placed.instruction) (placed_from slot is) ≡ is
 placed_instructions slot [] = refl
-placed_instructions slot (i ∷ is) = ap (λ (l : List Instruction). i ∷ l) (placed_instructions (slot + slots_of i) is)
+placed_instructions slot (i ∷ is) = rw (placed_instructions (slot + slots_of i) is)
 
 spelling_length : (i : Instruction) → length (spelling i) ≡ 8 * slots_of i
 unfolding spelling
@@ -150,9 +132,6 @@ whole : (is : List Instruction) → length (spellings is) % 8 ≡ 0
 whole [] = refl
 whole (i ∷ is) =
     omega (arith, length-append (spelling i) (spellings is), spelling_length i, whole is)
-
-abbrev done : Instruction → Result Instruction IsaFault
-done i = Ok i
 
 past : (front : List ℕ) (i : Instruction) (is : List Instruction) (slot : ℕ) → length front ≡ 8 * slot
     → slot < slot_count (front ++ (spelling i ++ spellings is))
@@ -177,9 +156,8 @@ slots_read front (i ∷ is) (suc steps) slot said long enough =
     omega (arith, length-append front (spelling i), spelling_length i) in
     let later = slots_read (front ++ spelling i) is steps (slot + slots_of i) said.1 before
     (omega (arith, some_slots i)) in
-    rw (lt-ltb slot (slot_count image) (past front i is slot long), next_slot image slot i here, here)
-    (ap (then_placed slot (done i)) (subst (λ bytes. read_slots bytes
-    (first_slots_from bytes steps (slot + slots_of i)) ≡ Ok (placed_from (slot + slots_of i) is)) regroup later))
+    let next = next_slot image slot i here in
+    rw (lt-ltb slot (slot_count image) (past front i is slot long), next, here, rw regroup at later)
 
 -- bytes of 1 to MAX_SLOTS slots read as the instructions that are spelled there
 pub image_read : (is : List Instruction) → AllSaid is → 0 < length (spellings is) →
@@ -188,10 +166,5 @@ unfolding read_image first_slots
 image_read is said some few =
     let image = spellings is in
     let rest = whole is in
-    let size : has_size image ≡ true =
-    rw (
-      eq-eqb (length image % 8) 0 rest,
-      le-leb 1 (slot_count image) (omega arith),
-      le-leb (slot_count image) MAX_SLOTS (omega arith),
-    ) in
+    let size : has_size image ≡ true = grind (arith, eq-eqb, le-leb) in
     rw size (slots_read [] is (slot_count image) 0 said refl (omega arith))

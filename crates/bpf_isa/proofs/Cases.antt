@@ -1,8 +1,8 @@
 -- Choices, one test after the other.
 use Rattle.std.proofs.Common.{Option, Some, None, IfSome, option_map}
-use Rattle.std.proofs.Common.{◌≡◌, ℕ, ◌≤◌, Bool, true, false, ◌&&◌, ◌||◌, cond, eqb, ℤ, pos, negsuc, zero, suc, refl}
-use Rattle.std.proofs.lemmas.Bool.{and_parts, eqb-true, leb-true}
-use Rattle.machine_spec.specs.Opcodes.{Fields, Uses, is_zero, has_register, has_registers, has_zeros}
+use Rattle.std.proofs.Common.{◌≡◌, Bool, true, false, ◌||◌, cond, ℤ, pos, zero, refl}
+use Rattle.std.proofs.lemmas.Bool.{and_parts, eqb-true}
+use Rattle.machine_spec.specs.Opcodes.{Fields, Uses, is_zero, has_zeros}
 
 -- what follows from a choice follows on both ways
 pub on_choice : {A : Type 0} (b : Bool) (x y z : A) (P : Type 0) → cond b x y ≡ z → (b ≡ true → x ≡ z → P) →
@@ -18,8 +18,7 @@ all_made make P (Some a) all = all a refl
 
 zero_is : (z : ℤ) → is_zero z ≡ true → z ≡ pos 0
 zero_is (pos zero) e = refl
-zero_is (pos (suc n)) e = absurd cc
-zero_is (negsuc n) e = absurd cc
+zero_is _ e = absurd cc
 
 or_unused : (used zero : Bool) → (used || zero) ≡ true → used ≡ false → zero ≡ true
 or_unused true b h e = absurd cc
@@ -34,27 +33,12 @@ pub record HasZeros (u : Uses) (f : Fields) : Type 0 where
 
 pub zeros : (u : Uses) (f : Fields) → has_zeros u f ≡ true → HasZeros u f
 zeros u f h =
-    let a = and_parts (((u.dst || eqb f.dst 0) && (u.src || eqb f.src 0)) && (u.offset || is_zero f.offset))
-    (u.imm || is_zero f.imm) h in
-    let b = and_parts ((u.dst || eqb f.dst 0) && (u.src || eqb f.src 0)) (u.offset || is_zero f.offset) a.0 in
-    let c = and_parts (u.dst || eqb f.dst 0) (u.src || eqb f.src 0) b.0 in
+    let a = and_parts _ _ h in
+    let b = and_parts _ _ a.0 in
+    let c = and_parts _ _ b.0 in
     record {
       dst = λ e. eqb-true _ _ (or_unused _ _ c.0 e);
       src = λ e. eqb-true _ _ (or_unused _ _ c.1 e);
       offset = λ e. zero_is _ (or_unused _ _ b.1 e);
       imm = λ e. zero_is _ (or_unused _ _ a.1 e);
     }
-
-register_is : (used : Bool) (number : ℕ) → has_register used number ≡ true → used ≡ true → number ≤ 10
-register_is true number h e = leb-true _ _ h
-register_is false number h e = absurd cc
-
--- what the test of the register fields says
-pub record HasNumbers (u : Uses) (f : Fields) : Type 0 where
-  pub dst : u.dst ≡ true → f.dst ≤ 10
-  pub src : u.src ≡ true → f.src ≤ 10
-
-pub numbers : (u : Uses) (f : Fields) → has_registers u f ≡ true → HasNumbers u f
-numbers u f h =
-    let a = and_parts (has_register u.dst f.dst) (has_register u.src f.src) h in
-    record { dst = register_is _ _ a.0; src = register_is _ _ a.1 }

@@ -1,5 +1,5 @@
 -- The fields of a slot are those that its instruction is spelled with.
-use Rattle.std.proofs.Common.{◌≡◌, ◌≤◌, ℕ, ◌+◌, ◌*◌, ◌^◌, ℤ, pos, true, Option, Some, None, refl, sym, Bool, subst}
+use Rattle.std.proofs.Common.{◌≡◌, ◌≤◌, ℕ, ◌+◌, ◌*◌, ◌^◌, ℤ, pos, Option, Some, None, refl, sym, Bool, subst}
 use Rattle.std.proofs.Common.{zero, suc, false, arith, option_map, IfSome, cond}
 use Rattle.std.specs.{Int.w32, Int.cast_unsigned, Ordering.int_eq}
 use Rattle.std.proofs.{lemmas.Bool.Decides.Decides-int_eq, lemmas.Bool.cond_both}
@@ -7,7 +7,7 @@ use Rattle.machine_spec.specs.declared.{operation.Width.Width, operation.Operati
 use Rattle.machine_spec.specs.declared.{operation.ByteOrder.ByteOrder, operation.SwappedWidth.SwappedWidth}
 use Rattle.machine_spec.specs.declared.{operation.ExtendedWidth.ExtendedWidth, instruction.Source.Source}
 use Rattle.machine_spec.specs.declared.instruction.Instruction.{Instruction}
-use Rattle.machine_spec.specs.declared.operation.Width.TheVariants.{Bits32, Bits64}
+use Rattle.machine_spec.specs.declared.operation.Width.TheVariants.{Bits32}
 use Rattle.machine_spec.specs.declared.operation.Operation.TheVariants.{Div, SignedDiv, Mod, SignedMod}
 use Rattle.machine_spec.specs.declared.operation.SwappedWidth.TheVariants as swapped
 use Rattle.machine_spec.specs.declared.operation.ExtendedWidth.TheVariants as extended
@@ -32,9 +32,6 @@ pub record IsSpelled (f : Fields) (i : Instruction) : Type 0 where
 
 -- ---- what a field selects has that field
 
-int_eq-true : (x y : ℤ) → int_eq x y ≡ true → x ≡ y
-int_eq-true x y h = (Decides-int_eq x y).0 h
-
 -- the first of three whose number a field has
 first_of_three : {A : Type 0} (number : A → ℕ) (a b c : A) (z : ℤ) →
     IfSome (cond (int_eq z (pos (number a))) (Some a) (cond (int_eq z (pos (number b))) (Some b)
@@ -45,7 +42,7 @@ first_of_three {A} number a b c z =
     by : (x : A) (other : Option A) → IfSome other (λ x. z ≡ pos (number x)) →
         IfSome (cond (int_eq z (pos (number x))) (Some x) other) (λ x. z ≡ pos (number x))
     by x other rest = cond_both (int_eq z (pos (number x))) (Some x) other (λ o. IfSome o (λ x. z ≡ pos (number x)))
-        (int_eq-true z (pos (number x))) (λ _. rest)
+        (Decides-int_eq z (pos (number x))).0 (λ _. rest)
 
 -- an operation that an offset selects has the template's code and that offset
 abbrev IsSelected : Operation → ℤ → Operation → Type 0
@@ -69,6 +66,25 @@ selected_operation _ offset z = (refl, z refl)
 
 -- ---- the fields of each form
 
+-- what holds of a move and of each extension holds of what a move from a register is
+module _ (f : Fields) (P : Instruction → Type 0) where
+  extending_made : (width : Width) (part : Option ExtendedWidth) → ((part : ExtendedWidth) →
+      f.offset ≡ pos (extended_bits part) → P (Unary (SignExtend width part) f.dst f.src)) →
+      IfSome part (λ part. f.offset ≡ pos (extended_bits part)) → IfSome (extending width f.dst f.src part) P
+  extending_made Bits32 (Some extended.Bits32) made is = tt
+  extending_made _ (Some part) made is = made part is
+  extending_made _ None made is = tt
+
+  moving_made : (width : Width) → (f.offset ≡ pos 0 → P (Move width f.dst (Register f.src))) →
+      ((part : ExtendedWidth) → f.offset ≡ pos (extended_bits part) → P (Unary (SignExtend width part) f.dst f.src)) →
+      IfSome (moving width f.dst f.src f.offset) P
+  moving_made width moved grown =
+      cond_both (int_eq f.offset (pos 0)) (Some (Move width f.dst (Register f.src)))
+      (extending width f.dst f.src (extended_by f.offset)) (λ made. IfSome made P)
+      (λ at. moved ((Decides-int_eq f.offset (pos 0)).0 at))
+      (λ _. extending_made width (extended_by f.offset) grown
+      (first_of_three extended_bits extended.Bits8 extended.Bits16 extended.Bits32 f.offset))
+
 module _ (f : Fields) where
   spelled : {i : Instruction} → (spelled_fields i).opcode ≡ f.opcode → f.dst ≡ (spelled_fields i).dst →
       f.src ≡ (spelled_fields i).src → f.offset ≡ (spelled_fields i).offset → f.imm ≡ (spelled_fields i).imm →
@@ -76,23 +92,11 @@ module _ (f : Fields) where
   spelled opcode dst src offset imm =
       record { opcode = sym opcode; dst = dst; src = src; offset = offset; imm = imm }
 
-  extends : (width : Width) (part : Option ExtendedWidth) →
-      opcode_byte 11 (Register 0) (arithmetic_class width) ≡ f.opcode → f.imm ≡ pos 0 →
-      IfSome part (λ part. f.offset ≡ pos (extended_bits part)) →
-      IfSome (extending width f.dst f.src part) (IsSpelled f)
-  extends Bits32 (Some extended.Bits32) o m by = tt
-  extends _ (Some _) o m by = spelled o refl refl by m
-  extends _ None o m by = tt
-
   -- a move from a register, by its offset
   moves : (width : Width) → opcode_byte 11 (Register 0) (arithmetic_class width) ≡ f.opcode → f.imm ≡ pos 0 →
       IfSome (moving width f.dst f.src f.offset) (IsSpelled f)
   moves width o m =
-      cond_both (int_eq f.offset (pos 0)) (Some (Move width f.dst (Register f.src)))
-      (extending width f.dst f.src (extended_by f.offset)) (λ made. IfSome made (IsSpelled f))
-      (λ at. spelled o refl refl (int_eq-true f.offset (pos 0) at) m)
-      (λ _. extends width (extended_by f.offset) o m
-      (first_of_three extended_bits extended.Bits8 extended.Bits16 extended.Bits32 f.offset))
+      moving_made f (IsSpelled f) width (λ at. spelled o refl refl at m) (λ part is. spelled o refl refl is m)
 
   orders : (order : ByteOrder) (width : Option SwappedWidth) → order_opcode order ≡ f.opcode → f.src ≡ 0 →
       f.offset ≡ pos 0 → IfSome width (λ width. f.imm ≡ pos (swapped_bits width)) →
@@ -146,24 +150,14 @@ abbrev IsLow : Instruction → Type 0
 IsLow i = changed_register i ≤ 10
 
 module _ (f : Fields) (dst : f.dst ≤ 10) (src : f.src ≤ 10) where
-  extending_reads : (width : Width) (part : Option ExtendedWidth) → IfSome (extending width f.dst f.src part) IsLow
-  extending_reads Bits32 (Some extended.Bits32) = tt
-  extending_reads _ (Some _) = src
-  extending_reads _ None = tt
-
-  moving_reads : (width : Width) → IfSome (moving width f.dst f.src f.offset) IsLow
-  moving_reads width = cond_both (int_eq f.offset (pos 0)) (Some (Move width f.dst (Register f.src)))
-      (extending width f.dst f.src (extended_by f.offset)) (λ made. IfSome made IsLow)
-      (λ _. omega arith) (λ _. extending_reads width (extended_by f.offset))
-
   reads : (template : Instruction) → IfSome (with_fields template f) IsLow
-  reads (Move width _ (Register _)) = moving_reads width
+  reads (Move width _ (Register _)) = moving_made f IsLow width (λ _. omega arith) (λ _ _. src)
   reads (Compute width operation _ source) = all_made (λ o. Compute width o f.dst (filled_source source f)) IsLow
       (chosen_operation operation f.offset) (λ _ _. omega arith)
   reads (Unary (Negate _) _ _) = dst
   reads (Unary (Order order _) _ _) =
       all_made (λ w. Unary (Order order w) f.dst f.dst) IsLow (swapped_by f.imm) (λ _ _. dst)
-  reads (Unary (SignExtend width _) _ _) = moving_reads width
+  reads (Unary (SignExtend width _) _ _) = moving_made f IsLow width (λ _. omega arith) (λ _ _. src)
   reads (Jump (Short _)) = omega arith
   reads (Wide _ _) =
       all_made (λ upper. Wide f.dst (upper * 2 ^ 32 + cast_unsigned w32 f.imm)) IsLow f.upper (λ _ _. omega arith)

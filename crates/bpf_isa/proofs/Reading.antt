@@ -1,6 +1,6 @@
 -- Reading an image slot after slot, as a loop does, and that what is read is the image's code.
 use Rattle.std.proofs.Common.{◌≡◌, ◌≢◌, ℕ, zero, suc, ◌+◌, ◌-◌, ◌<◌, ◌≤◌, true, cond, eqb, List, [], ◌∷◌, ◌++◌, length}
-use Rattle.std.proofs.Common.{map, Option, Some, None, Result, Ok, Err, refl, sym, ap, inl, inr, subst, ◌==◌}
+use Rattle.std.proofs.Common.{map, Option, Some, None, Result, Ok, Err, refl, sym, ap, ⊎_elim, subst, ◌==◌}
 use Rattle.std.proofs.Common.{if◌then◌else◌, ◌∙◌, append_assoc, length-append, arith, slice_get, option_and_then, IfOk}
 use Rattle.std.proofs.lemmas.Bool.{lt-ltb, le-ltb, eq-eqb, ne_eqb, cases_eq, cond_both}
 use Rattle.std.proofs.{lemmas.List.append-nil, lemmas.Option.same_Some, lemmas.Option.slice_get_past}
@@ -17,9 +17,6 @@ use Rattle.bpf_isa.proofs.{Cases.on_choice, Bytes.next_slot, Bytes.form_read}
 abbrev Reading : Type 0
 Reading = Result (List Placed) IsaFault
 
-abbrev read_all : List Placed → Reading
-read_all code = Ok code
-
 -- ---- the loop
 
 -- what was read before, and what is still read
@@ -33,7 +30,7 @@ rest_from image steps slot = read_slots image (first_slots_from image steps slot
 
 regroup : (front : List Placed) (p : Placed) (r : Reading) →
     with_front front (then_placed p.slot (Ok p.instruction) r) ≡ with_front (front ++ p ∷ []) r
-regroup front p (Ok code) = ap read_all (simp append_assoc)
+regroup front p (Ok code) = ap Ok (simp append_assoc)
 regroup front p (Err e) = refl
 
 pub goes_on : (image : List ℕ) (front : List Placed) (slot : ℕ) (i : Instruction) (total : Reading) →
@@ -68,9 +65,6 @@ is_done image front slot steps total le so_far = rw (← so_far, closed image st
 
 -- ---- the table
 
-abbrev some_of : ℕ → Option ℕ
-some_of n = Some n
-
 number-push : (code : List Placed) (p : Placed) (k slot : ℕ) → p.slot ≢ slot →
     number_from k (code ++ p ∷ []) slot ≡ number_from k code slot
 number-push [] p k slot other = rw (ne_eqb p.slot slot other) refl
@@ -78,27 +72,19 @@ number-push (q ∷ code) p k slot other = ap (cond (eqb q.slot slot) (Some k)) (
 
 number-push_here : (code : List Placed) (p : Placed) (k : ℕ) → number_from k code p.slot ≡ None →
     number_from k (code ++ p ∷ []) p.slot ≡ Some (k + length code)
-number-push_here [] p k none = rw (eq-eqb p.slot p.slot refl) (ap some_of (omega arith))
+number-push_here [] p k none = rw (eq-eqb p.slot p.slot refl) (ap Some (omega arith))
 number-push_here (q ∷ code) p k none =
-    on_choice (eqb q.slot p.slot) (some_of k) (number_from (k + 1) code p.slot) None
-    (number_from k ((q ∷ code) ++ p ∷ []) p.slot ≡ Some (k + length (q ∷ code))) none
-    (λ _ e. absurd cc)
-    (λ other e. let rest = number-push_here code p (k + 1) e in rw other (rest ∙ ap some_of (omega arith)))
+    grind (arith, cond_both, number-push_here code p (k + 1))
 
 get_push_other : (xs : List (Option ℕ)) (x : Option ℕ) (slot : ℕ) → length xs ≢ slot →
     slice_get (xs ++ x ∷ []) slot ≡ slice_get xs slot
 get_push_other [] x zero other = absurd (other refl)
-get_push_other [] x (suc slot) other = refl
-get_push_other (y ∷ xs) x zero other = refl
 get_push_other (y ∷ xs) x (suc slot) other = get_push_other xs x slot (λ e. other (ap suc e))
+get_push_other _ x _ other = refl
 
 get_push_here : (xs : List (Option ℕ)) (x : Option ℕ) → slice_get (xs ++ x ∷ []) (length xs) ≡ Some x
 get_push_here [] x = refl
 get_push_here (y ∷ xs) x = get_push_here xs x
-
--- what a table has at a slot
-abbrev entry : List (Option ℕ) → ℕ → Option ℕ
-entry numbers slot = option_and_then (λ number. number) (slice_get numbers slot)
 
 abbrev flat : Option (Option ℕ) → Option ℕ
 flat o = option_and_then (λ number. number) o
@@ -115,11 +101,10 @@ table_with : (code others : List Placed) (numbers : List (Option ℕ)) (x : Opti
     IsTable others (numbers ++ x ∷ [])
 table_with code others numbers x table here there =
     record {
-      entries = λ slot. elim (cases_eq (length numbers) slot) [
-        | inl same ↦ subst (λ (s : ℕ). entry (numbers ++ x ∷ []) s ≡ number_at others s) same
-            (ap flat (get_push_here numbers x) ∙ here)
-        | inr other ↦ ap flat (get_push_other numbers x slot other) ∙ table.entries slot ∙ sym (there slot other)
-      ];
+      entries = λ slot. ⊎_elim
+          (λ same. rw (← same) (ap flat (get_push_here numbers x) ∙ here))
+          (λ other. ap flat (get_push_other numbers x slot other) ∙ table.entries slot ∙ sym (there slot other))
+          (cases_eq (length numbers) slot);
     }
 
 table_pushed : (code : List Placed) (numbers : List (Option ℕ)) (i : Instruction) → IsTable code numbers →
@@ -127,7 +112,7 @@ table_pushed : (code : List Placed) (numbers : List (Option ℕ)) (i : Instructi
 table_pushed code numbers i table =
     let p : Placed = record { slot = length numbers; instruction = i } in
     table_with code (code ++ p ∷ []) numbers (Some (length code)) table
-    (sym (number-push_here code p 0 (no_entry code numbers table) ∙ ap some_of (omega arith)))
+    (sym (number-push_here code p 0 (no_entry code numbers table) ∙ ap Some (omega arith)))
     (number-push code p 0)
 
 -- no instruction begins at the next slot
@@ -150,76 +135,44 @@ table_enter code numbers slot n i table e d =
     (λ _. table_skip placed (numbers ++ Some n ∷ []) pushed)
     (λ _. subst (IsTable placed) (sym (append-nil (numbers ++ Some n ∷ []))) pushed)
 
-lengths : (numbers : List (Option ℕ)) (n : ℕ) (rest : List (Option ℕ)) →
-    length ((numbers ++ Some n ∷ []) ++ rest) ≡ length numbers + suc (length rest)
-lengths numbers n rest = omega (arith, length-append (numbers ++ Some n ∷ []) rest, length-append numbers (Some n ∷ []))
-
 pub entered_length : (numbers : List (Option ℕ)) (n : ℕ) (i : Instruction) →
     length (entered numbers n (slots_of i)) ≡ length numbers + slots_of i
-entered_length numbers n (Wide _ _) = lengths numbers n (None ∷ [])
-entered_length numbers n _ = lengths numbers n []
+entered_length numbers n (Wide _ _) = omega (arith, length-append {A = Option ℕ})
+entered_length numbers n _ = omega (arith, length-append {A = Option ℕ})
 
 -- ---- what is read is the image's code
 
 -- what a slot's instruction before the others is read with
-record Cons (image : List ℕ) (slot : ℕ) (slots : List ℕ) (code : List Placed) : Type 0 where
-  instruction : Instruction
-  others : List Placed
-  here : read_slot image slot ≡ Ok instruction
-  later : read_slots image slots ≡ Ok others
-  whole : code ≡ record { slot = slot; instruction = instruction } ∷ others
-
-cons_by : (image : List ℕ) (slot : ℕ) (slots : List ℕ) (code : List Placed) (r : Result Instruction IsaFault)
-    (rs : Reading) → read_slot image slot ≡ r → read_slots image slots ≡ rs → then_placed slot r rs ≡ Ok code →
-    Cons image slot slots code
-cons_by image slot slots code (Ok i) (Ok others) here later e =
-    record { instruction = i; others = others; here = here; later = later; whole = cc }
-cons_by image slot slots code (Ok i) (Err f) here later e = absurd cc
-cons_by image slot slots code (Err f) rs here later e = absurd cc
+read_first : (slot : ℕ) (code : List Placed) (r : Result Instruction IsaFault) (rs : Reading) →
+    then_placed slot r rs ≡ Ok code → (i : Instruction) × (others : List Placed) × (r ≡ Ok i) × (rs ≡ Ok others)
+    × (record { slot = slot; instruction = i } ∷ others ≡ code)
+read_first slot code (Ok i) (Ok others) e = (i, others, refl, refl, cc)
+read_first slot code _ _ e = absurd cc
 
 slots_read : (image : List ℕ) (slots : List ℕ) (code : List Placed) → read_slots image slots ≡ Ok code →
     map (λ placed. placed.slot) code ≡ slots
-slots_read image [] code e = let nothing : [] ≡ code = cc in rw (← nothing) refl
+slots_read image [] [] e = refl
+slots_read image [] (p ∷ code) e = absurd cc
 slots_read image (slot ∷ slots) code e =
-    let c = cons_by image slot slots code (read_slot image slot) (read_slots image slots) refl refl e in
-    rw c.whole (ap (λ (l : List ℕ). slot ∷ l) (slots_read image slots c.others c.later))
-
-forms_cons : (image : List ℕ) (slot : ℕ) (i : Instruction) (others : List Placed) (k : ℕ) (placed : Placed) →
-    read_slot image slot ≡ Ok i
-    → ((k : ℕ) (placed : Placed) → slice_get others k ≡ Some placed →
-    form_at image placed.slot ≡ Some placed.instruction)
-    → slice_get (record { slot = slot; instruction = i } ∷ others) k ≡ Some placed →
-    form_at image placed.slot ≡ Some placed.instruction
-forms_cons image slot i others zero placed here later at =
-    let p : Placed = record { slot = slot; instruction = i } in
-    let same : p ≡ placed = same_Some p placed at in
-    subst (λ (q : Placed). form_at image q.slot ≡ Some q.instruction) same (ap if_read here)
-forms_cons image slot i others (suc k) placed here later at = later k placed at
+    let c = read_first slot code (read_slot image slot) (read_slots image slots) e in
+    rw (← c.4) (ap (λ (l : List ℕ). slot ∷ l) (slots_read image slots c.1 c.3))
 
 forms_read : (image : List ℕ) (slots : List ℕ) (code : List Placed) → read_slots image slots ≡ Ok code →
     (k : ℕ) (placed : Placed) → slice_get code k ≡ Some placed → form_at image placed.slot ≡ Some placed.instruction
-forms_read image [] code e k placed at =
-    let nothing : [] ≡ code = cc in
-    let none : slice_get code k ≡ None = rw (← nothing) refl in
-    absurd cc
-forms_read image (slot ∷ slots) code e k placed at =
-    let c = cons_by image slot slots code (read_slot image slot) (read_slots image slots) refl refl e in
-    let at_whole = rw c.whole at at in
-    forms_cons image slot c.instruction c.others k placed c.here (forms_read image slots c.others c.later) at_whole
-
--- the size is right
-pub sized_read : (image : List ℕ) → has_size image ≡ true → read_image image ≡ read_slots image (first_slots image)
-unfolding read_image
-sized_read image size = rw size refl
+forms_read image [] [] e k placed at = absurd cc
+forms_read image [] (p ∷ code) e k placed at = absurd cc
+forms_read image (slot ∷ slots) code e zero placed at =
+    let c = read_first slot code (read_slot image slot) (read_slots image slots) e in
+    rw (← same_Some _ placed (rw (← c.4) at at)) (ap if_read c.2)
+forms_read image (slot ∷ slots) code e (suc k) placed at =
+    let c = read_first slot code (read_slot image slot) (read_slots image slots) e in
+    forms_read image slots c.1 c.3 k placed (rw (← c.4) at at)
 
 pub is_code_from : (image : List ℕ) (code : List Placed) → has_size image ≡ true →
     read_slots image (first_slots image) ≡ Ok code → IsCodeOf image code
 is_code_from image code size e =
-    record {
-      size = size;
-      slots = slots_read image (first_slots image) code e;
-      forms = forms_read image (first_slots image) code e;
-    }
+    let firsts = first_slots image in
+    record { size = size; slots = slots_read image firsts code e; forms = forms_read image firsts code e }
 
 slots_again : (image : List ℕ) (code : List Placed) →
     ((k : ℕ) (placed : Placed) → slice_get code k ≡ Some placed → form_at image placed.slot ≡ Some placed.instruction) →
@@ -230,12 +183,11 @@ slots_again image (p ∷ code) forms =
 
 -- the code of an image is what it reads as
 pub code_read : (image : List ℕ) (code : List Placed) → IsCodeOf image code → read_image image ≡ Ok code
-code_read image code is = sized_read image is.size ∙ ap (read_slots image) (sym is.slots)
-    ∙ slots_again image code is.forms
+unfolding read_image
+code_read image code is = rw (is.size, ← is.slots) (slots_again image code is.forms)
 
 pub one_code : (image : List ℕ) (code other : List Placed) → IsCodeOf image code → IsCodeOf image other → code ≡ other
-one_code image code other is other_is = let same : read_all code ≡ read_all other = sym (code_read image code is)
-    ∙ code_read image other other_is in cc
+one_code image code other is other_is = cc (code_read image code is, code_read image other other_is)
 
 -- ---- the loop's ends
 
@@ -256,10 +208,8 @@ table_none = record { entries = λ slot. refl }
 pub kept : (image : List ℕ) (code : List Placed) (numbers : List (Option ℕ)) → AreBytes image → has_size image ≡ true →
     read_slots image (first_slots image) ≡ Ok code → IsTable code numbers → IsKept code numbers
 kept image code numbers bytes size read table =
-    record {
-      image = record { image = image; bytes = bytes; is_code = is_code_from image code size read };
-      table = table;
-    }
+    let is_code = is_code_from image code size read in
+    record { image = record { image = image; bytes = bytes; is_code = is_code }; table = table }
 
 pub if_ok_code : (image : List ℕ) (r : Reading) → has_size image ≡ true →
     AnswersAs fault.Memory (λ (code : List Placed). code) r (read_slots image (first_slots image)) →
@@ -270,7 +220,7 @@ if_ok_code image (Err e) size read = tt
 pub read_code : (image : List ℕ) (code : List Placed) → read_image image ≡ Ok code → IsCodeOf image code
 unfolding read_image
 read_code image code e =
-    on_choice (has_size image) (read_slots image (first_slots image)) (Err fault.Size) (read_all code)
+    on_choice (has_size image) (read_slots image (first_slots image)) (Err fault.Size) (Ok code)
     (IsCodeOf image code) e
     (λ size e. is_code_from image code size e)
     (λ _ e. absurd cc)

@@ -19,11 +19,7 @@ one_more (p ∷ code) zero i e =
     let same : p.instruction ≡ i = same_Some p.instruction i e in
     rw flat_map-cons (rw (← same) (sym (append-nil (spelling p.instruction))))
 one_more (p ∷ code) (suc k) i e =
-    rw (
-      flat_map-cons spelled_one p (take k code),
-      flat_map-cons spelled_one p (take (suc k) code),
-      ← one_more code k i e,
-    ) (append_assoc (spelling p.instruction) (image_bytes (take k code)) (spelling i))
+    simp (flat_map-cons, append_assoc, one_more code k i e)
 
 pub spelled_more : (code : List Placed) (k : ℕ) (i : Instruction) →
     option_map (λ p. p.instruction) (slice_get code k) ≡ Some i →

@@ -1,6 +1,6 @@
 -- How far a run can have come: the slot grows with each step, and an address moves by less than 2^63 and 1 in each.
 use Rattle.std.proofs.Common.{◌≡◌, ◌≢◌, ℕ, zero, suc, ◌+◌, ◌*◌, ◌^◌, ◌<◌, ◌≤◌, Bool, true, false, not, ◌&&◌}
-use Rattle.std.proofs.Common.{if◌then◌else◌, nat_lt, nat_le, ◌==◌, List, [], ◌∷◌, Option, Some, None, refl, sym, subst}
+use Rattle.std.proofs.Common.{if◌then◌else◌, nat_lt, nat_le, ◌==◌, List, [], ◌∷◌, Option, Some, None, refl, sym}
 use Rattle.std.proofs.Common.{⊎_elim, arith, ℤ, pos, negsuc, ◌+ℤ◌, neg_ℤ, is_none, unsigned_abs}
 use Rattle.std.specs.List.{list_any}
 use Rattle.std.proofs.lemmas.Int.{ints}
@@ -12,7 +12,7 @@ use Rattle.machine_spec.specs.declared.{instruction.Source.Source, instruction.I
 use Rattle.machine_spec.specs.declared.operation.Width.TheVariants.{Bits32, Bits64}
 use Rattle.machine_spec.specs.declared.instruction.Extension.TheVariants as extension
 use Rattle.machine_spec.specs.declared.instruction.Source.TheVariants.{Register, Immediate}
-use Rattle.machine_spec.specs.declared.instruction.Instruction.TheVariants.{Move, Compute, Load, Unary, Store, JumpIf}
+use Rattle.machine_spec.specs.declared.instruction.Instruction.TheVariants.{Move, Compute, Load, Unary, JumpIf}
 use Rattle.machine_spec.specs.declared.instruction.Instruction.TheVariants.{Jump, Wide, Call, Exit}
 use Rattle.machine_spec.specs.{Arithmetic.signed, Traps.is_valid_target, Meaning.Step, Meaning.Reaches}
 use Rattle.machine_spec.specs.Values.{Value, Nothing, Number, Address, Registers, operand, moved_value, moves_address}
@@ -32,18 +32,11 @@ first_within : (image : List ℕ) (steps slot target : ℕ) →
     list_any (λ first. first == target) (first_slots_from image steps slot) ≡ true → target < slot_count image
 first_within image zero slot target e = absurd (false≢true e)
 first_within image (suc steps) slot target e =
-    from (nat_lt slot (slot_count image)) refl e (first_within image steps (slot_after image slot) target)
-  where
-    from : (b : Bool) → nat_lt slot (slot_count image) ≡ b →
-        list_any (λ first. first == target) (if b then slot
-        ∷ first_slots_from image steps (slot_after image slot) else []) ≡ true →
-        (list_any (λ first. first == target) (first_slots_from image steps (slot_after image slot)) ≡ true →
-        target < slot_count image) → target < slot_count image
-    from true is e later = ⊎_elim
-        (λ here. subst (λ s. s < slot_count image) (eqb-true slot target here) (ltb-true slot (slot_count image) is))
-        later
-        (or_cases (slot == target) _ e)
-    from false is e later = absurd (false≢true e)
+    cond_both (nat_lt slot (slot_count image)) (slot ∷ first_slots_from image steps (slot_after image slot)) []
+    (λ slots. list_any (λ first. first == target) slots ≡ true → target < slot_count image)
+    (λ is here. ⊎_elim (λ same. omega (arith, eqb-true slot target same, ltb-true slot (slot_count image) is))
+    (first_within image steps (slot_after image slot) target) (or_cases (slot == target) _ here))
+    (λ is here. absurd (false≢true here)) e
 
 is_first_within : (image : List ℕ) (target : ℕ) → is_first_slot image target ≡ true → target < slot_count image
 unfolding first_slots
@@ -79,11 +72,6 @@ module _ (program : Program) (input : Input) (s : State) (within : s.slot < slot
   pub goes_further : (i : Instruction) → i ≢ Exit → IsFree program input i s →
       (s.slot < (state_after i input s).slot) × ((state_after i input s).slot ≤ slot_count program.image + 1)
   unfolding state_after
-  goes_further (Move a b c) other free = goes_one
-  goes_further (Compute a b c d) other free = goes_one
-  goes_further (Load a b c d e) other free = goes_one
-  goes_further (Unary a b c) other free = goes_one
-  goes_further (Store a b c d) other free = goes_one
   goes_further (JumpIf width test dst source offset) other free =
       goes_if (is_taken width test (s.registers dst) (operand width s.registers source)) offset free.jump
   goes_further (Jump distance) other free = goes_landing (distance_of distance) (not-false _ free.jump)
@@ -91,6 +79,7 @@ module _ (program : Program) (input : Input) (s : State) (within : s.slot < slot
   goes_further (Call number) other free = goes_called (helper_of number)
       (is_helper (helpers_of program.table) number free.helper)
   goes_further Exit other free = absurd (other refl)
+  goes_further _ other free = goes_one
 
 -- ---- addresses
 
@@ -101,9 +90,8 @@ IsNearBy bound (Number _) = Unit {0}
 IsNearBy bound (Address _ at) = unsigned_abs at ≤ bound
 
 further : (b c : ℕ) (value : Value) → b ≤ c → IsNearBy b value → IsNearBy c value
-further b c Nothing le near = tt
-further b c (Number n) le near = tt
 further b c (Address region at) le near = omega arith
+further b c _ le near = tt
 
 signed_size : (n : ℕ) → unsigned_abs (signed Bits64 n) ≤ 2 ^ 63
 signed_size n = omega (arith, ints)
@@ -129,9 +117,8 @@ near_operand b width registers (Immediate imm) near = tt
 
 near_moved : (b : ℕ) (width : Width) (value : Value) → IsNearBy b value → IsNearBy b (moved_value width value)
 near_moved b Bits64 value near = near
-near_moved b Bits32 Nothing near = tt
 near_moved b Bits32 (Number n) near = tt
-near_moved b Bits32 (Address region at) near = tt
+near_moved b _ _ near = tt
 
 near_shifted : (b : ℕ) (moves : Bool) (operation : Operation) (region : Region) (at : ℤ) (n : ℕ) → unsigned_abs at ≤ b →
     IsNearBy (b + 2 ^ 63) (if moves then Address region (at +ℤ displacement operation n) else Nothing)
@@ -141,26 +128,20 @@ near_shifted b false operation region at n near = tt
 
 near_result : (b : ℕ) (width : Width) (operation : Operation) (first second : Value) → IsNearBy b first →
     IsNearBy (b + 2 ^ 63) (result_of width operation first second)
-near_result b width operation Nothing second near = tt
-near_result b width operation (Number m) Nothing near = tt
 near_result b width operation (Number m) (Number n) near = tt
-near_result b width operation (Number m) (Address region at) near = tt
-near_result b width operation (Address region at) Nothing near = tt
 near_result b width operation (Address region at) (Number n) near =
     near_shifted b (moves_address width operation) operation region at n near
-near_result b width operation (Address region at) (Address other to) near = tt
+near_result b width operation _ _ near = tt
 
 near_changed : (b : ℕ) (change : Change) (value : Value) → IsNearBy b (changed_value change value)
-near_changed b change Nothing = tt
 near_changed b change (Number n) = tt
-near_changed b change (Address region at) = tt
+near_changed b change _ = tt
 
 near_extended : (b : ℕ) (ext : Extension) (size : Size) (input : Input) (stack : ℕ → Option ℕ) (access : Option Access)
     → IsNearBy b (extended_value ext size (value_loaded input stack access))
 near_extended b extension.Zero size input stack (Some a) = tt
-near_extended b extension.Zero size input stack None = tt
 near_extended b extension.Sign size input stack (Some a) = tt
-near_extended b extension.Sign size input stack None = tt
+near_extended b _ size input stack _ = tt
 
 near_after_call : (b : ℕ) (registers : Registers) (answer : Value) (r : ℕ) → ((q : ℕ) → IsNearBy b (registers q)) →
     IsNearBy b answer → IsNearBy b (after_call registers answer r)
@@ -184,41 +165,25 @@ near_after : (b : ℕ) (i : Instruction) (input : Input) (s : State) → ((r : �
     IsNearBy (b + 2 ^ 63) ((state_after i input s).registers r)
 unfolding state_after
 near_after b (Move width dst source) input s near r =
-    near_set b s.registers dst (moved_value width (operand width s.registers source)) near
-    (further b (b + 2 ^ 63) _ (omega arith) (near_moved b width (operand width s.registers source)
-    (near_operand b width s.registers source near))) r
+    let moved = near_moved b width _ (near_operand b width s.registers source near) in
+    near_set b s.registers dst _ near (further b (b + 2 ^ 63) _ (omega arith) moved) r
 near_after b (Compute width operation dst source) input s near r =
-    near_set b s.registers dst (result_of width operation (s.registers dst) (operand width s.registers source)) near
-    (near_result b width operation (s.registers dst) (operand width s.registers source) (near dst)) r
+    near_set b s.registers dst _ near
+    (near_result b width operation _ (operand width s.registers source) (near dst)) r
 near_after b (Load size ext dst base offset) input s near r =
     near_set b s.registers dst _ near (near_extended (b + 2 ^ 63) ext size input s.stack _) r
 near_after b (Unary change dst src) input s near r =
-    near_set b s.registers dst (changed_value change (s.registers src)) near
-    (near_changed (b + 2 ^ 63) change (s.registers src)) r
-near_after b (Store size base offset source) input s near r =
-    further b (b + 2 ^ 63) (s.registers r) (omega arith) (near r)
-near_after b (JumpIf width test dst source offset) input s near r =
-    further b (b + 2 ^ 63) (s.registers r) (omega arith) (near r)
-near_after b (Jump distance) input s near r = further b (b + 2 ^ 63) (s.registers r) (omega arith) (near r)
+    near_set b s.registers dst _ near (near_changed (b + 2 ^ 63) change (s.registers src)) r
 near_after b (Wide dst number) input s near r = near_set b s.registers dst (Number number) near tt r
 near_after b (Call number) input s near r =
-    further b (b + 2 ^ 63) ((state_after_call (helper_of number) input s).registers r) (omega arith)
-    (near_called b (helper_of number) input s near r)
-near_after b Exit input s near r = further b (b + 2 ^ 63) (s.registers r) (omega arith) (near r)
+    further b (b + 2 ^ 63) _ (omega arith) (near_called b (helper_of number) input s near r)
+near_after b _ input s near r = further b (b + 2 ^ 63) (s.registers r) (omega arith) (near r)
 
 near_entry : (input : Input) (r : ℕ) → IsNearBy 512 (entry_register input r)
-near_entry input zero = tt
 near_entry input (suc zero) = omega arith
-near_entry input (suc (suc zero)) = tt
 near_entry input (suc (suc (suc zero))) = omega arith
-near_entry input (suc (suc (suc (suc zero)))) = tt
-near_entry input (suc (suc (suc (suc (suc zero))))) = tt
-near_entry input (suc (suc (suc (suc (suc (suc zero)))))) = tt
-near_entry input (suc (suc (suc (suc (suc (suc (suc zero))))))) = tt
-near_entry input (suc (suc (suc (suc (suc (suc (suc (suc zero)))))))) = tt
-near_entry input (suc (suc (suc (suc (suc (suc (suc (suc (suc zero))))))))) = tt
 near_entry input (suc (suc (suc (suc (suc (suc (suc (suc (suc (suc zero)))))))))) = omega arith
-near_entry input (suc (suc (suc (suc (suc (suc (suc (suc (suc (suc (suc r))))))))))) = tt
+near_entry input _ = tt
 
 -- ---- runs
 
@@ -234,36 +199,28 @@ module _ (program : Program) (input : Input) where
       (s.slot < t.slot) × (t.slot ≤ slot_count program.image + 1)
   step_further s t step =
       let free = is_free program input s step.instruction step.no_trap step.form in
-      subst (λ (u : State). (s.slot < u.slot) × (u.slot ≤ slot_count program.image + 1)) (sym step.next_is)
+      rw step.next_is
       (goes_further program input s (slot_within program input s step.no_trap) step.instruction step.goes_on free)
 
   next_bounded : (n : ℕ) (s t : State) → IsBounded program n s → Step program input s t → IsBounded program (suc n) t
   next_bounded n s t b step =
       let ahead = step_further s t step in
-      let counted : suc n ≤ t.slot = omega (arith, b.counted, ahead.0) in
+      let near = near_after (512 + s.slot * 2 ^ 63) step.instruction input s b.near in
       record {
-        counted = counted;
+        counted = omega (arith, b.counted, ahead.0);
         within = ahead.1;
         near = λ r. further (512 + s.slot * 2 ^ 63 + 2 ^ 63) (512 + t.slot * 2 ^ 63) (t.registers r)
-            (omega (arith, ahead.0))
-            (subst (λ (u : State). IsNearBy (512 + s.slot * 2 ^ 63 + 2 ^ 63) (u.registers r)) (sym step.next_is)
-            (near_after (512 + s.slot * 2 ^ 63) step.instruction input s b.near r));
+            (omega (arith, ahead.0)) (rw step.next_is (near r));
       }
 
   pub bounded : (n : ℕ) (s : State) → Reaches program input n s → IsBounded program n s
   bounded zero s at =
-      subst (λ (t : State). IsBounded program zero t) (sym at)
-      (record {
-        counted = omega arith;
-        within = omega arith;
-        near = λ r. further 512 (512 + 0 * 2 ^ 63) (entry_register input r) (omega arith) (near_entry input r);
-      })
+      rw at (record { counted = omega arith; within = omega arith; near = near_entry input })
   bounded (suc n) s chain = next_bounded n chain.0 s (bounded n chain.0 chain.1) chain.2
 
 is_near : (b : ℕ) (value : Value) → b < 2 ^ 126 → IsNearBy b value → IsNear value
-is_near b Nothing small near = tt
-is_near b (Number n) small near = tt
 is_near b (Address region at) small near = omega arith
+is_near b _ small near = tt
 
 -- so near that a sum has 128 bits, of an image that a slice can have
 pub near_of : (program : Program) (input : Input) (n : ℕ) (s : State) → Reaches program input n s →

@@ -1,11 +1,11 @@
 -- What is known of a step and of an end, once the instruction is fetched.
-use Rattle.std.proofs.Common.{◌≡◌, ℕ, suc, ◌+◌, ◌<◌, ◌^◌, true, false, Some, refl, ap, ◌∙◌, subst, arith}
+use Rattle.std.proofs.Common.{◌≡◌, ℕ, ◌+◌, ◌<◌, ◌^◌, false, Some, refl, arith}
 use Rattle.machine_spec.specs.{declared.instruction.Instruction.Instruction, declared.instruction.Trap.Trap}
 use Rattle.machine_spec.specs.{declared.outcome.Outcome.Outcome, Image.Program, Image.slot_count, Summaries.summary_of}
 use Rattle.machine_spec.specs.{Traps.calls_wrongly, Traps.trap_at}
-use Rattle.machine_spec.specs.Machine.{Input, State, access_of, state_after}
-use Rattle.machine_spec.specs.Meaning.{Step, Reaches, outcome_of}
-use Rattle.machine_spec.proofs.{Meanings.exit_is, Meanings.other_than_exit, Free.is_free}
+use Rattle.machine_spec.specs.Machine.{Input, State, access_of}
+use Rattle.machine_spec.specs.Meaning.{Reaches, outcome_of}
+use Rattle.machine_spec.proofs.{Free.is_free}
 use Rattle.bpf_machine.specs.declared.tracing.End.TheVariants as end
 use Rattle.bpf_machine.specs.{Straight.IsWritable, Advances.IsNext, Advances.IsExit, Ends.EndsOnlyIn}
 use Rattle.bpf_machine.proofs.{Bounds.bounded, Only.ends_only}
@@ -17,19 +17,6 @@ module _ (program : Program) (input : Input) (s : State) where
 
   pub rightly : (i : Instruction) → IsNext program input s i → calls_wrongly input (summary_of i).call s ≡ false
   rightly i next = (is_free program input s i next.no_trap next.form).argument
-
-  pub stepped : (i : Instruction) (t : State) → IsNext program input s i → (summary_of i).exits ≡ false →
-      t ≡ state_after i input s → Step program input s t
-  stepped i t next stays is = record {
-    instruction = i;
-    form = next.form;
-    goes_on = other_than_exit i stays;
-    no_trap = next.no_trap;
-    next_is = is;
-  }
-
-  pub exited : (i : Instruction) → IsNext program input s i → (summary_of i).exits ≡ true → IsExit program input s
-  exited i next exits = record { form = next.form ∙ ap Some (exit_is i exits); no_trap = next.no_trap }
 
   pub ends_trapped : (n : ℕ) (reported : Trap) → Reaches program input n s → trap_at program input s ≡ Some reported →
       EndsOnlyIn program input (end.Trap reported) n
@@ -47,11 +34,6 @@ module _ (program : Program) (input : Input) (s : State) where
         end =
             record { form = at.form; no_trap = at.no_trap; outcome_is = is };
       })
-
-  pub one_more : (n : ℕ) (t : State) → Reaches program input n s → Step program input s t →
-      Reaches program input (n + 1) t
-  one_more n t chain step = let e : suc n ≡ n + 1 = omega arith in
-      subst (λ k. Reaches program input k t) e (s, chain, step)
 
   -- the count and the slot are small
   pub small_slot : (n : ℕ) → Reaches program input n s → slot_count program.image < 2 ^ 61 → s.slot < 2 ^ 62

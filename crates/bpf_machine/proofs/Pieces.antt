@@ -1,6 +1,6 @@
 -- Registers and stacks in lists, as functions.
 use Rattle.std.proofs.Common.{◌≡◌, ℕ, zero, suc, ◌<◌, List, [], ◌∷◌, length, slice_set, Some, refl, arith, slice_get}
-use Rattle.std.proofs.{Math.Path.fun_ext, lemmas.Bool.ne_eqb, lemmas.Bool.lt-leb}
+use Rattle.std.proofs.{Math.Path.fun_ext, lemmas.Bool.Decides.nat_tests}
 use Rattle.machine_spec.specs.Values.{Value, Nothing, Registers}
 use Rattle.machine_spec.specs.Machine.{with_register, after_call}
 
@@ -10,32 +10,14 @@ get-set_same (y ∷ ys) zero x h = refl
 get-set_same (y ∷ ys) (suc i) x h = get-set_same ys i x (omega arith)
 
 -- r0 and r1 to r5 put one after the other
+spent_at : (registers : Registers) (answer : Value) (r : ℕ) →
+    with_register (with_register (with_register (with_register
+    (with_register (with_register registers 0 answer) 1 Nothing) 2 Nothing) 3 Nothing) 4 Nothing) 5 Nothing r
+    ≡ after_call registers answer r
+spent_at registers answer r = grind (arith, nat_tests)
+
 pub registers-spent : (registers : Registers) (answer : Value) →
     with_register (with_register (with_register (with_register
     (with_register (with_register registers 0 answer) 1 Nothing) 2 Nothing) 3 Nothing) 4 Nothing) 5 Nothing
     ≡ after_call registers answer
-registers-spent registers answer = fun_ext λ r. at r
-  where
-    spent : ℕ → Value
-    spent = with_register (with_register (with_register
-        (with_register (with_register (with_register registers 0 answer) 1 Nothing) 2 Nothing) 3 Nothing) 4 Nothing)
-        5 Nothing
-
-    at : (r : ℕ) → spent r ≡ after_call registers answer r
-    at zero = refl
-    at (suc zero) = refl
-    at (suc (suc zero)) = refl
-    at (suc (suc (suc zero))) = refl
-    at (suc (suc (suc (suc zero)))) = refl
-    at (suc (suc (suc (suc (suc zero))))) = refl
-    at (suc (suc (suc (suc (suc (suc r)))))) =
-        rw (
-          ne_eqb 5 (suc (suc (suc (suc (suc (suc r)))))) (λ e. omega arith),
-          ne_eqb 4 (suc (suc (suc (suc (suc (suc r)))))) (λ e. omega arith),
-          ne_eqb 3 (suc (suc (suc (suc (suc (suc r)))))) (λ e. omega arith),
-          ne_eqb 2 (suc (suc (suc (suc (suc (suc r)))))) (λ e. omega arith),
-          ne_eqb 1 (suc (suc (suc (suc (suc (suc r)))))) (λ e. omega arith),
-          ne_eqb 0 (suc (suc (suc (suc (suc (suc r)))))) (λ e. omega arith),
-          ne_eqb (suc (suc (suc (suc (suc (suc r)))))) 0 (λ e. omega arith),
-          lt-leb (suc (suc (suc (suc (suc (suc r)))))) 5 (omega arith),
-        ) refl
+registers-spent registers answer = fun_ext λ r. spent_at registers answer r

@@ -1,5 +1,5 @@
 -- A walk over the first slots of an image, and bytes written one after the other.
-use Rattle.std.proofs.Common.{◌≡◌, ◌≢◌, ℕ, zero, suc, ◌+◌, ◌-◌, ◌<◌, ◌≤◌, Bool, true, false, ◌||◌, ◌==◌, List, length}
+use Rattle.std.proofs.Common.{◌≡◌, ◌≢◌, ℕ, zero, suc, ◌+◌, ◌<◌, ◌≤◌, Bool, true, false, ◌||◌, ◌==◌, List, length}
 use Rattle.std.proofs.Common.{slice_set, replicate, Option, Some, refl, sym, ap, ◌∙◌, subst, ⊎_elim, arith, slice_get}
 use Rattle.std.proofs.Common.{option_and_then, slice_index}
 use Rattle.std.specs.Prelude.{unwrap_or}

@@ -1,6 +1,7 @@
 -- What an outcome tells C.
 use Rattle.std.specs.Prelude.{◌≡◌, ℕ, zero, suc, ◌+◌, ◌≤◌, List, [], ◌++◌, length, drop, slice_get, is_none}
-use Rattle.std.specs.Prelude.{if◌then◌else◌, Option, Some, None}
+use Rattle.std.specs.Prelude.{if◌then◌else◌, Option, Result, Ok, Err, ok_or}
+use denote.Ref.{Bor}
 use Rattle.wire_spec.specs.declared.record.Header.{Header}
 use Rattle.machine_spec.specs.{declared.outcome.Outcome.Outcome, declared.outcome.Emission.Emission, Machine.bytes_of}
 use Rattle.machine_spec.specs.declared.outcome.Outcome.TheVariants.{Kept, Rejected}
@@ -36,29 +37,33 @@ description_of emission = record {
   header_count = length emission.headers;
 }
 
--- what is told of an emission of an outcome, by its number; RANGE where there is none
-abbrev pub TellsEmission : Option Emission → Emitted → ℕ → Type 0
-TellsEmission None told number = number ≡ RANGE
-TellsEmission (Some emission) told number = (number ≡ 0) × (told ≡ description_of emission)
+-- ---- what is found by its number
 
--- bytes at the front of a buffer, and the rest of it as it was; or none of it changed, where it is too short
-abbrev pub Copies : List ℕ → List ℕ → List ℕ → ℕ → Type 0
-Copies bytes before after zero = after ≡ bytes ++ drop (length bytes) before
-Copies bytes before after (suc number) =
-    (after ≡ before) × (suc number ≡ ROOM) × (suc (length before) ≤ length bytes)
+-- a value behind a reference that was found, or why there is none
+abbrev pub found : {A : Type 0} → Result (Bor A) ℕ → Result A ℕ
+found (Ok value) = Ok value.now
+found (Err fault) = Err fault
 
--- A part of an emission is copied to the front of a buffer, where it fits; where there is no emission, RANGE is
--- returned and the buffer is as it was.
-abbrev pub CopiesPart : (Emission → Option (List ℕ)) → Option Emission → List ℕ → List ℕ → ℕ → Type 0
-CopiesPart part None before after number = (after ≡ before) × (number ≡ RANGE)
-CopiesPart part (Some emission) before after number = Copies (bytes_of (part emission)) before after number
+-- an item of a list; RANGE where there is none with this number
+abbrev pub item_at : {A : Type 0} → List A → ℕ → Result A ℕ
+item_at items number = ok_or (slice_get items number) RANGE
 
--- ---- headers of an emission
+-- an emission of an outcome that was found, by its number
+abbrev pub emission_at : Result Outcome ℕ → ℕ → Result Emission ℕ
+emission_at (Err fault) number = Err fault
+emission_at (Ok outcome) number = item_at (emissions_of outcome) number
 
--- a header of an emission by its number, if there are both
-abbrev pub header_at : Option Emission → ℕ → Option Header
-header_at None at = None
-header_at (Some emission) at = slice_get emission.headers at
+-- a header of an emission that was found, by its number
+abbrev pub header_at : Result Emission ℕ → ℕ → Result Header ℕ
+header_at (Err fault) at = Err fault
+header_at (Ok emission) at = item_at emission.headers at
+
+-- the bytes of a part of what was found
+abbrev pub part_at : {A : Type 0} → (A → List ℕ) → Result A ℕ → Result (List ℕ) ℕ
+part_at part (Err fault) = Err fault
+part_at part (Ok value) = Ok (part value)
+
+-- ---- what is told
 
 -- what is reported of a header: the lengths of its key and value, and whether the value is null
 abbrev pub header_told : Header → HeaderTold
@@ -68,13 +73,18 @@ header_told header = record {
   nulls = if is_none header.value then 2 else 0;
 }
 
--- what is told of a header; RANGE where there is none
-abbrev pub TellsOneHeader : Option Header → HeaderTold → ℕ → Type 0
-TellsOneHeader None told number = number ≡ RANGE
-TellsOneHeader (Some header) told number = (number ≡ 0) × (told ≡ header_told header)
+-- what is told of something that was found; else the number says why nothing was
+abbrev pub TellsOf : {A B : Type 0} → (A → B) → Result A ℕ → B → ℕ → Type 0
+TellsOf told_of (Err fault) told number = number ≡ fault
+TellsOf told_of (Ok value) told number = (number ≡ 0) × (told ≡ told_of value)
 
--- A part of a header is copied to the front of a buffer, where it fits; where there is no header, RANGE is returned and
--- the buffer is as it was.
-abbrev pub CopiesOneHeader : (Header → List ℕ) → Option Header → List ℕ → List ℕ → ℕ → Type 0
-CopiesOneHeader part None before after number = (after ≡ before) × (number ≡ RANGE)
-CopiesOneHeader part (Some header) before after number = Copies (part header) before after number
+-- bytes at the front of a buffer, and the rest of it as it was; or none of it changed, where it is too short
+abbrev pub Copies : List ℕ → List ℕ → List ℕ → ℕ → Type 0
+Copies bytes before after zero = after ≡ bytes ++ drop (length bytes) before
+Copies bytes before after (suc number) =
+    (after ≡ before) × (suc number ≡ ROOM) × (suc (length before) ≤ length bytes)
+
+-- The same of bytes that were found; else the number says why none were, and the buffer is as it was.
+abbrev pub CopiesFound : Result (List ℕ) ℕ → List ℕ → List ℕ → ℕ → Type 0
+CopiesFound (Err fault) before after number = (after ≡ before) × (number ≡ fault)
+CopiesFound (Ok bytes) before after number = Copies bytes before after number

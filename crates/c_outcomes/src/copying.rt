@@ -7,13 +7,13 @@ ghost use Rattle.c_outcomes.specs.Outcomes as definitions;
 use crate::numbers::{OK, ROOM};
 use bytes::Bytes;
 
-/// How long a part is, 0 for null.
-pub(crate) fn length_of(part: &Option<Bytes>) -> usize
-    ensures { result ≡ definitions.length_of part.now }
+/// The bytes of a part, none where it is null.
+pub(crate) fn part_bytes(part: &Option<Bytes>) -> &[u8]
+    ensures { result.now ≡ bytes_of part.now }
 {
     match part {
-        None => 0,
-        Some(bytes) => bytes.len(),
+        None => &[],
+        Some(bytes) => bytes.as_slice(),
     }
 }
 
@@ -28,12 +28,12 @@ pub fn copy(bytes: &[u8], buffer: &mut [u8]) -> u32
     OK
 }
 
-/// The same of a part, which has no bytes where it is null.
-pub fn copy_part(part: &Option<Bytes>, buffer: &mut [u8]) -> u32
-    ensures { definitions.Copies (bytes_of part.now) buffer.old buffer.new result }
+/// The same of bytes that were found; else it returns why none were.
+pub fn copy_found(found: Result<&[u8], u32>, buffer: &mut [u8]) -> u32
+    ensures { definitions.CopiesFound (definitions.found found.entry) buffer.old buffer.new result }
 {
-    match part {
-        None => OK,
-        Some(bytes) => copy(bytes.as_slice(), buffer),
+    match found {
+        Err(fault) => fault,
+        Ok(bytes) => copy(bytes, buffer),
     }
 }

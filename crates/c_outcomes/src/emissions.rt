@@ -1,10 +1,11 @@
 //! The emissions of an outcome, by their numbers from 0.
 
-ghost use Rattle.std.specs.Prelude.{◌≡◌, slice_get};
+ghost use Rattle.std.specs.Prelude.{◌≡◌};
+ghost use Rattle.machine_spec.specs.Machine.{bytes_of};
 ghost use Rattle.c_outcomes.specs.Outcomes as definitions;
 
-use crate::copying::{copy_part, length_of};
-use crate::numbers::{OK, RANGE};
+use crate::copying::part_bytes;
+use crate::telling::{Telling, item_at};
 use bytes::Bytes;
 use machine_spec::{Emission, Outcome};
 
@@ -53,45 +54,38 @@ fn nulls_of(key: &Option<Bytes>, value: &Option<Bytes>) -> u32
     first + second
 }
 
-fn description_of(emission: &Emission) -> Emitted
-    ensures { result ≡ definitions.description_of emission.now }
-{
-    Emitted {
-        output: emission.out,
-        key_length: length_of(&emission.key),
-        value_length: length_of(&emission.value),
-        nulls: nulls_of(&emission.key, &emission.value),
-        header_count: emission.headers.list.len(),
+impl Telling<Emission> for Emitted {
+    ghost told_of = { definitions.description_of };
+
+    fn told_of(emission: &Emission) -> Emitted {
+        Emitted {
+            output: emission.out,
+            key_length: part_bytes(&emission.key).len(),
+            value_length: part_bytes(&emission.value).len(),
+            nulls: nulls_of(&emission.key, &emission.value),
+            header_count: emission.headers.list.len(),
+        }
     }
 }
 
-/// Tells of an emission.
-pub fn tell_emission(emissions: &[Emission], number: usize, told: &mut Emitted) -> u32
-    ensures { definitions.TellsEmission (slice_get emissions.now number) told.new result }
+/// An emission of an outcome that was found.
+#[inline(always)]
+pub fn emission_at(outcome: Result<&Outcome, u32>, number: usize) -> Result<&Emission, u32>
+    ensures { definitions.found result ≡ definitions.emission_at (definitions.found outcome.entry) number }
 {
-    if number >= emissions.len() {
-        return RANGE;
-    }
-    *told = description_of(&emissions[number]);
-    OK
+    item_at(emissions_of(outcome?), number)
 }
 
-/// Copies the key of an emission.
-pub fn copy_emission_key(emissions: &[Emission], number: usize, buffer: &mut [u8]) -> u32
-    ensures { definitions.CopiesPart (λ e. e.key) (slice_get emissions.now number) buffer.old buffer.new result }
+/// The bytes of an emission's key.
+pub fn key_at(outcome: Result<&Outcome, u32>, number: usize) -> Result<&[u8], u32>
+    ensures { definitions.found result ≡ definitions.part_at (λ e. bytes_of e.key) (definitions.emission_at (definitions.found outcome.entry) number) }
 {
-    if number >= emissions.len() {
-        return RANGE;
-    }
-    copy_part(&emissions[number].key, buffer)
+    Ok(part_bytes(&emission_at(outcome, number)?.key))
 }
 
-/// Copies the value of an emission.
-pub fn copy_emission_value(emissions: &[Emission], number: usize, buffer: &mut [u8]) -> u32
-    ensures { definitions.CopiesPart (λ e. e.value) (slice_get emissions.now number) buffer.old buffer.new result }
+/// The bytes of an emission's value.
+pub fn value_at(outcome: Result<&Outcome, u32>, number: usize) -> Result<&[u8], u32>
+    ensures { definitions.found result ≡ definitions.part_at (λ e. bytes_of e.value) (definitions.emission_at (definitions.found outcome.entry) number) }
 {
-    if number >= emissions.len() {
-        return RANGE;
-    }
-    copy_part(&emissions[number].value, buffer)
+    Ok(part_bytes(&emission_at(outcome, number)?.value))
 }

@@ -1,12 +1,13 @@
 //! The headers of an emission, by their numbers from 0.
 
-ghost use Rattle.std.specs.Prelude.{◌≡◌, ℕ, slice_get};
+ghost use Rattle.std.specs.Prelude.{◌≡◌};
 ghost use Rattle.machine_spec.specs.Machine.{bytes_of};
 ghost use Rattle.c_outcomes.specs.Outcomes as definitions;
 
-use crate::copying::{copy, copy_part, length_of};
-use crate::numbers::{OK, RANGE};
-use machine_spec::Emission;
+use crate::copying::part_bytes;
+use crate::emissions::emission_at;
+use crate::telling::{Telling, item_at};
+use machine_spec::Outcome;
 use wire_spec::Header;
 
 /// How long a header is, and whether its value is null.
@@ -21,54 +22,40 @@ pub struct HeaderTold {
     pub nulls: u32,
 }
 
-/// The headers of an emission; none where there is no such emission.
-pub fn headers_of(emissions: &[Emission], number: usize) -> &[Header]
-    ensures { (at : ℕ) → slice_get result.now at ≡ definitions.header_at (slice_get emissions.now number) at }
-{
-    if number >= emissions.len() {
-        return &[];
-    }
-    let headers = &emissions[number].headers;
-    headers.list.as_slice()
-}
+impl Telling<Header> for HeaderTold {
+    ghost told_of = { definitions.header_told };
 
-fn told_of(header: &Header) -> HeaderTold
-    ensures { result ≡ definitions.header_told header.now }
-{
-    HeaderTold {
-        key_length: header.key.len(),
-        value_length: length_of(&header.value),
-        nulls: if header.value.is_none() { 2 } else { 0 },
+    fn told_of(header: &Header) -> HeaderTold {
+        HeaderTold {
+            key_length: header.key.len(),
+            value_length: part_bytes(&header.value).len(),
+            nulls: if header.value.is_none() { 2 } else { 0 },
+        }
     }
 }
 
-/// Tells of a header.
-pub fn tell_header(headers: &[Header], at: usize, told: &mut HeaderTold) -> u32
-    ensures { definitions.TellsOneHeader (slice_get headers.now at) told.new result }
+/// A header of an emission of an outcome that was found.
+#[inline(always)]
+pub fn header_at(outcome: Result<&Outcome, u32>, number: usize, at: usize) -> Result<&Header, u32>
+    ensures { definitions.found result ≡ definitions.header_at (definitions.emission_at (definitions.found outcome.entry) number) at }
 {
-    if at >= headers.len() {
-        return RANGE;
-    }
-    *told = told_of(&headers[at]);
-    OK
+    item_at(emission_at(outcome, number)?.headers.list.as_slice(), at)
 }
 
-/// Copies the key of a header.
-pub fn copy_header_key(headers: &[Header], at: usize, buffer: &mut [u8]) -> u32
-    ensures { definitions.CopiesOneHeader (λ h. h.key) (slice_get headers.now at) buffer.old buffer.new result }
+/// The bytes of a header's key.
+pub fn header_key_at(outcome: Result<&Outcome, u32>, number: usize, at: usize) -> Result<&[u8], u32>
+    ensures { definitions.found result ≡ definitions.part_at (λ h. h.key) (definitions.header_at (definitions.emission_at (definitions.found outcome.entry) number) at) }
 {
-    if at >= headers.len() {
-        return RANGE;
-    }
-    copy(headers[at].key.as_slice(), buffer)
+    Ok(header_at(outcome, number, at)?.key.as_slice())
 }
 
-/// Copies the value of a header.
-pub fn copy_header_value(headers: &[Header], at: usize, buffer: &mut [u8]) -> u32
-    ensures { definitions.CopiesOneHeader (λ h. bytes_of h.value) (slice_get headers.now at) buffer.old buffer.new result }
+/// The bytes of a header's value.
+pub fn header_value_at(
+    outcome: Result<&Outcome, u32>,
+    number: usize,
+    at: usize,
+) -> Result<&[u8], u32>
+    ensures { definitions.found result ≡ definitions.part_at (λ h. bytes_of h.value) (definitions.header_at (definitions.emission_at (definitions.found outcome.entry) number) at) }
 {
-    if at >= headers.len() {
-        return RANGE;
-    }
-    copy_part(&headers[at].value, buffer)
+    Ok(part_bytes(&header_at(outcome, number, at)?.value))
 }

@@ -5,10 +5,10 @@ mod copying;
 mod emissions;
 mod headers;
 mod numbers;
+mod telling;
 
-pub use crate::copying::{copy, copy_part};
-pub use crate::emissions::{
-    Emitted, code_of, copy_emission_key, copy_emission_value, emissions_of, tell_emission,
-};
-pub use crate::headers::{HeaderTold, copy_header_key, copy_header_value, headers_of, tell_header};
+pub use crate::copying::{copy, copy_found};
+pub use crate::emissions::{Emitted, code_of, emission_at, emissions_of, key_at, value_at};
+pub use crate::headers::{HeaderTold, header_at, header_key_at, header_value_at};
 pub use crate::numbers::{OK, RANGE, ROOM};
+pub use crate::telling::{Telling, item_at, tell};

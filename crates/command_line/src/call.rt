@@ -4,7 +4,7 @@ ghost use Rattle.std.specs.Prelude.{◌≡◌};
 ghost use Rattle.command_line.specs.declared.call.Misuse.TheVariants.{Memory};
 
 use batch_text::Listing;
-use explain::Extent;
+use explain::Coverage;
 use machine_spec::Table;
 use std::alloc::AllocError;
 
@@ -19,7 +19,7 @@ pub enum ImageCall<'a> {
     Disassemble(&'a str),
     /// Prints what the verifier knows of a program. Fields: the image, the helper table, how much is
     /// listed.
-    Explain(&'a str, Table, Extent),
+    Explain(&'a str, Table, Coverage),
 }
 
 /// A call of the program, with the names of its files.

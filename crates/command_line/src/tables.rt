@@ -4,7 +4,7 @@ ghost use Rattle.std.specs.Prelude.{◌≡◌};
 ghost use Rattle.std.specs.Option.{option_copied};
 ghost use Rattle.command_line.specs.Extents as definitions;
 
-use explain::Extent;
+use explain::Coverage;
 use machine_spec::Table;
 
 /// The helper table that a word names, if there is one: else the first.
@@ -20,18 +20,18 @@ pub(crate) fn table_of(word: Option<&str>) -> Option<Table>
 }
 
 /// How much is explained, by a word, if there is one.
-fn extent_of(word: Option<&str>) -> Option<Extent>
+fn extent_of(word: Option<&str>) -> Option<Coverage>
     ensures { result ≡ definitions.extent_of (option_copied word.entry) }
 {
     match word {
-        None => Some(Extent::All),
-        Some(word) if word == "refused" => Some(Extent::Refused),
+        None => Some(Coverage::All),
+        Some(word) if word == "refused" => Some(Coverage::Refused),
         Some(_) => None,
     }
 }
 
 /// The helper table and how much is explained, by the words after an image. Either may be left out.
-pub(crate) fn shown_of(first: Option<&str>, second: Option<&str>) -> Option<(Table, Extent)>
+pub(crate) fn shown_of(first: Option<&str>, second: Option<&str>) -> Option<(Table, Coverage)>
     ensures { result ≡ definitions.shown_of (option_copied first.entry) (option_copied second.entry) }
 {
     match table_of(first) {

@@ -1,6 +1,6 @@
 -- What a line appends of a reader's bytes, and what it prints of that.
 use Rattle.std.proofs.Common.{◌≡◌, ◌≢◌, ℕ, ◌<◌, ◌≤◌, List, [], ◌∷◌, ◌++◌, ◌-◌, length, take, drop, Result, Ok, Err}
-use Rattle.std.proofs.Common.{refl, sym, ap, subst, inl, inr, ◌∙◌, append-nil, arith, Option, Some, None, IfSome}
+use Rattle.std.proofs.Common.{refl, sym, ap, inl, inr, ◌∙◌, append-nil, arith, Option, Some, None, IfSome}
 use Rattle.std.proofs.{Math.Seq.drop-append_seam, lemmas.List.take_all, lemmas.List.length-drop}
 use Rattle.std.specs.Prelude.{⊤}
 use Rattle.std.specs.Io.KnownBytes.{Appends, Consumes, IsAtEnd}
@@ -9,12 +9,13 @@ use Rattle.wire_spec.specs.declared.fault.BatchFault.TheVariants as faults
 use Rattle.wire_spec.proofs.MoreBytes.{batch_at-part, batch_at-append}
 use Rattle.part_log.specs.Parts.{Received}
 use Rattle.part_log.specs.declared.fault.LogFault.TheVariants as log
-use Rattle.broker.specs.Streams.{Streams, IsBadNext, AppendsFrom}
+use Rattle.batch_reader.{specs.Readings.IsBadNext, proofs.ReadingLaws.found_before}
+use Rattle.broker.specs.Streams.{Streams, AppendsFrom}
 use Rattle.broker.specs.declared.fault.BrokerFault.TheVariants as broker
 use Rattle.broker.specs.declared.stream.StreamFault.{StreamFault}
 use Rattle.broker.specs.declared.stream.StreamFault.TheVariants as stream
-use Rattle.broker.proofs.StreamLaws.{more_bytes, not_part}
-use Rattle.script.specs.declared.command.Source.{Source}
+use Rattle.broker.proofs.StreamLaws.{more_bytes}
+use Rattle.script.specs.declared.command.FileWord.{FileWord}
 use Rattle.commands.specs.declared.{reading.Unread.Unread, stop.Stop.Stop}
 use Rattle.commands.specs.declared.reading.Unread.TheVariants as unread
 use Rattle.commands.specs.declared.stop.Stop.TheVariants as stop
@@ -35,31 +36,8 @@ whole None after taken is = record { left = []; known_is = tt; none_left = λ en
 whole (Some all) None taken is = absurd is
 whole (Some all) (Some left) taken is = record { left = left; known_is = sym is; none_left = λ end. end }
 
--- what was appended of the bytes that were taken was appended of all
-of_all : (inputs input : ℕ) (before after : Option (List ℕ)) (cause : Stop) (old new : List Received) (rest : List ℕ)
-    (result : Result ⊤ Stop) → Streams input before after old new rest →
-    ((left : List ℕ) → (IsAtEnd after → left ≡ []) → EndsAt inputs input cause old new (rest ++ left) result) →
-    AppendsOf inputs input before cause old new result
-of_all inputs input before after cause old new rest result is ends =
-    let all = whole before after is.taken is.consumed in
-    record {
-      bytes = is.taken ++ all.left;
-      known_is = all.known_is;
-      rest = rest ++ all.left;
-      appended = record {
-        added = is.appended.added;
-        new_is = is.appended.new_is;
-        are = more_bytes input is.taken is.appended.added rest all.left is.appended.are;
-      };
-      ends = ends all.left all.none_left;
-    }
-
 some_byte : (byte : ℕ) (left : List ℕ) → byte ∷ left ≢ []
 some_byte byte left none = cc
-
-short_is : {A : Type 0} (read : Result A BatchFault) (fault : BatchFault) → read ≡ Err fault → read ≡ Err faults.Short →
-    fault ≡ faults.Short
-short_is read fault one other = cc
 
 -- with more bytes after them, bytes begin with no batch for the same reason, unless they were too few
 still_bad : (rest left : List ℕ) (fault : BatchFault) → batch_at rest ≡ Err fault → (fault ≡ faults.Short → left ≡ []) →
@@ -67,88 +45,100 @@ still_bad : (rest left : List ℕ) (fault : BatchFault) → batch_at rest ≡ Er
 still_bad rest [] fault bad none = ap batch_at (append-nil rest) ∙ bad
 still_bad rest (byte ∷ left) fault bad none =
     batch_at-append rest (byte ∷ left) (λ part. some_byte byte left
-    (none (short_is (batch_at rest) fault bad (batch_at-part rest part)))) ∙ bad
+    (none (cc (batch_at-part rest part)))) ∙ bad
 
 some_left : (rest left : List ℕ) → rest ≢ [] → rest ++ left ≢ []
 some_left [] left some none = absurd (some refl)
 some_left (byte ∷ rest) left some none = some_byte byte (rest ++ left) none
 
-bad_next : (inputs input : ℕ) (after : Option (List ℕ)) (cause : Stop) (old new : List Received) (rest left : List ℕ)
-    (fault : BatchFault) → input < inputs → IsBadNext after rest fault → (IsAtEnd after → left ≡ []) →
-    EndsAt inputs input cause old new (rest ++ left) (Err (stop_of_fault fault))
-bad_next inputs input after cause old new rest left fault there bad none = elim (of_fault fault) [
-  | inl same ↦ subst (λ (s : Stop). EndsAt inputs input cause old new (rest ++ left) (Err s)) (sym same) tt
-  | inr (other, same) ↦
-      let b = bad other in
-      subst (λ (s : Stop). EndsAt inputs input cause old new (rest ++ left) (Err s)) (sym same)
-      (there, some_left rest left b.0, still_bad rest left fault b.1 (λ short. none (b.2 short)))
-]
-
-unread_ends : (inputs input : ℕ) (cause : Stop) (old new : List Received) (rest : List ℕ) → IsUnread cause →
-    EndsAt inputs input cause old new rest (Err cause)
-unread_ends inputs input (stop.File name) old new rest is = refl
-unread_ends inputs input stop.Memory old new rest is = tt
-unread_ends inputs input other old new rest is = absurd is
-
 known_or_none : (known : Option (List ℕ)) → (bytes : List ℕ) × IfSome known (λ all. bytes ≡ all)
 known_or_none None = ([], tt)
 known_or_none (Some all) = (all, refl)
 
--- nothing is appended
-pub nothing : (inputs input : ℕ) (known : Option (List ℕ)) (cause : Stop) (old new : List Received) (reason : Stop) →
-    new ≡ old → ((rest : List ℕ) → EndsAt inputs input cause old new rest (Err reason)) →
-    AppendsOf inputs input known cause old new (Err reason)
-nothing inputs input known cause old new reason same ends =
-    let all = known_or_none known in
-    record {
-      bytes = all.0;
-      known_is = all.1;
-      rest = all.0;
-      appended = record { added = []; new_is = same ∙ sym (append-nil old); are = refl };
-      ends = ends all.0;
-    }
+module _ (inputs input : ℕ) (cause : Stop) (old new : List Received) where
+  -- what was appended of the bytes that were taken was appended of all
+  of_all : (before after : Option (List ℕ)) (rest : List ℕ) (result : Result ⊤ Stop) →
+      Streams input before after old new rest →
+      ((left : List ℕ) → (IsAtEnd after → left ≡ []) → EndsAt inputs input cause old new (rest ++ left) result) →
+      AppendsOf inputs input before cause old new result
+  of_all before after rest result is ends =
+      let all = whole before after is.taken is.consumed in
+      record {
+        bytes = is.taken ++ all.left;
+        known_is = all.known_is;
+        rest = rest ++ all.left;
+        appended = record {
+          added = is.appended.added;
+          new_is = is.appended.new_is;
+          are = more_bytes input is.taken is.appended.added rest all.left is.appended.are;
+        };
+        ends = ends all.left all.none_left;
+      }
+
+  bad_next : (after : Option (List ℕ)) (rest left : List ℕ) (fault : BatchFault) → input < inputs →
+      IsBadNext after rest fault → (IsAtEnd after → left ≡ []) →
+      EndsAt inputs input cause old new (rest ++ left) (Err (stop_of_fault fault))
+  bad_next after rest left fault there bad none = elim (of_fault fault) [
+    | inl same ↦ rw same tt
+    | inr (other, same) ↦
+        let b = bad other in
+        rw same (there, some_left rest left b.0, still_bad rest left fault b.1 (λ short. none (b.2 short)))
+  ]
+
+  -- nothing is appended
+  nothing : (known : Option (List ℕ)) (reason : Stop) → new ≡ old →
+      ((rest : List ℕ) → EndsAt inputs input cause old new rest (Err reason)) →
+      AppendsOf inputs input known cause old new (Err reason)
+  nothing known reason same ends =
+      let all = known_or_none known in
+      record {
+        bytes = all.0;
+        known_is = all.1;
+        rest = all.0;
+        appended = record { added = []; new_is = same ∙ sym (append-nil old); are = refl };
+        ends = ends all.0;
+      }
+
+  unread_ends : (why : Stop) → cause ≡ why → IsUnread why → (rest : List ℕ) →
+      EndsAt inputs input cause old new rest (Err why)
+  unread_ends (stop.File name) same is rest = sym same
+  unread_ends stop.Memory same is rest = tt
+  unread_ends other same is rest = absurd is
+
+  pub appends_from : (before after : Option (List ℕ)) (appended : Result ℕ StreamFault) → IsUnread cause →
+      AppendsFrom inputs input before after old appended new →
+      AppendsOf inputs input before cause old new (end_of_stream cause appended)
+  appends_from before after (Ok count) is (there, (rest, streams, (counted, none, end))) =
+      of_all before after rest (Ok tt) streams
+      (λ left none_left. (there, ap (λ (front : List ℕ). front ++ left) none ∙ none_left end))
+  appends_from before after (Err stream.Read) is (there, (rest, streams, stops)) =
+      of_all before after rest (Err cause) streams (λ left none_left. unread_ends cause refl is (rest ++ left))
+  appends_from before after (Err (stream.Batch fault)) is (there, (rest, streams, bad)) =
+      of_all before after rest (Err (stop_of_fault fault)) streams
+      (λ left none_left. bad_next after rest left fault there bad none_left)
+  appends_from before after (Err (stream.Broker broker.Partition)) is (absent, same, kept) =
+      nothing before (stop.Broker broker.Partition) same (λ rest. (absent, same))
+  appends_from before after (Err (stream.Broker broker.Memory)) is (there, (rest, streams, stops)) =
+      of_all before after rest (Err stop.Memory) streams (λ left none_left. tt)
+  appends_from before after (Err (stream.Broker (broker.Log log.Memory))) is (there, (rest, streams, stops)) =
+      of_all before after rest (Err stop.Memory) streams (λ left none_left. tt)
+  appends_from before after (Err (stream.Broker (broker.Log fault))) is
+      (there, (rest, streams, (batch, used, found))) =
+      of_all before after rest (Err (stop.Broker (broker.Log fault))) streams
+      (λ left none_left. (there, batch, used, found_before rest left batch used found))
+  appends_from before after (Err (stream.Broker broker.NoProgram)) is (there, (rest, streams, stops)) = absurd stops
+  appends_from before after (Err (stream.Broker (broker.Catalogue fault))) is (there, (rest, streams, stops)) =
+      absurd stops
+  appends_from before after (Err (stream.Broker (broker.Book fault))) is (there, (rest, streams, stops)) = absurd stops
 
 -- a file that is not opened
 pub unopened : (inputs input : ℕ) (known : Option (List ℕ)) (name : List ℕ) (old : List Received) (cause : Unread)
     (reason : Stop) → reason ≡ stop_of_unread name cause →
     AppendsOf inputs input known (stop.File name) old old (Err reason)
 unopened inputs input known name old unread.File reason is =
-    subst (λ (s : Stop). AppendsOf inputs input known (stop.File name) old old (Err s)) (sym is)
-    (nothing inputs input known (stop.File name) old old (stop.File name) refl (λ rest. refl))
+    rw is (nothing inputs input (stop.File name) old old known (stop.File name) refl (λ rest. refl))
 unopened inputs input known name old unread.Memory reason is =
-    subst (λ (s : Stop). AppendsOf inputs input known (stop.File name) old old (Err s)) (sym is)
-    (nothing inputs input known (stop.File name) old old stop.Memory refl (λ rest. tt))
-
-pub appends_from : (inputs input : ℕ) (before after : Option (List ℕ)) (cause : Stop) (old new : List Received)
-    (appended : Result ℕ StreamFault) → IsUnread cause → AppendsFrom inputs input before after old appended new →
-    AppendsOf inputs input before cause old new (end_of_stream cause appended)
-appends_from inputs input before after cause old new (Ok count) is (there, (rest, streams, (counted, none, end))) =
-    of_all inputs input before after cause old new rest (Ok tt) streams
-    (λ left none_left. (there, ap (λ (front : List ℕ). front ++ left) none ∙ none_left end))
-appends_from inputs input before after cause old new (Err stream.Read) is (there, (rest, streams, stops)) =
-    of_all inputs input before after cause old new rest (Err cause) streams
-    (λ left none_left. unread_ends inputs input cause old new (rest ++ left) is)
-appends_from inputs input before after cause old new (Err (stream.Batch fault)) is (there, (rest, streams, bad)) =
-    of_all inputs input before after cause old new rest (Err (stop_of_fault fault)) streams
-    (λ left none_left. bad_next inputs input after cause old new rest left fault there bad none_left)
-appends_from inputs input before after cause old new (Err (stream.Broker broker.Partition)) is (absent, same, kept) =
-    nothing inputs input before cause old new (stop.Broker broker.Partition) same (λ rest. (absent, same))
-appends_from inputs input before after cause old new (Err (stream.Broker broker.Memory)) is
-    (there, (rest, streams, stops)) =
-    of_all inputs input before after cause old new rest (Err stop.Memory) streams (λ left none_left. tt)
-appends_from inputs input before after cause old new (Err (stream.Broker (broker.Log log.Memory))) is
-    (there, (rest, streams, stops)) =
-    of_all inputs input before after cause old new rest (Err stop.Memory) streams (λ left none_left. tt)
-appends_from inputs input before after cause old new (Err (stream.Broker (broker.Log fault))) is
-    (there, (rest, streams, (batch, used, found))) =
-    of_all inputs input before after cause old new rest (Err (stop.Broker (broker.Log fault))) streams
-    (λ left none_left. (there, batch, used, batch_at-append rest left (not_part rest batch used found) ∙ found))
-appends_from inputs input before after cause old new (Err (stream.Broker broker.NoProgram)) is
-    (there, (rest, streams, stops)) = absurd stops
-appends_from inputs input before after cause old new (Err (stream.Broker (broker.Catalogue fault))) is
-    (there, (rest, streams, stops)) = absurd stops
-appends_from inputs input before after cause old new (Err (stream.Broker (broker.Book fault))) is
-    (there, (rest, streams, stops)) = absurd stops
+    rw is (nothing inputs input (stop.File name) old old known stop.Memory refl (λ rest. tt))
 
 -- ---- The lines of what was appended
 
@@ -169,15 +159,14 @@ added_is old new added all count same all_is count_is =
     take_all (length all - count) (drop count all) whole ∙ rest
 
 -- all lines were printed
-pub all_printed : (inputs : ℕ) (files : List ℕ → Option (List ℕ)) (input : ℕ) (source : Source)
+pub all_printed : (inputs : ℕ) (files : List ℕ → Option (List ℕ)) (input : ℕ) (source : FileWord)
     (old new : List Received) (before after : Option (List ℕ)) (appended : Result ⊤ Stop) →
     AppendsOf inputs input (bytes_of files source) (unread_of source) old new appended →
     (all : List Received) (count : ℕ) → all ≡ new → count ≡ length old →
     Appends before after (append_lines input (take (length all - count) (drop count all))) →
     AppendDoes inputs files input source old new before after appended
-all_printed inputs files input source old new before after appended is all count all_is count_is printed =
-    let added = is.appended.added in
-    let lines : Appends before after (append_lines input added) =
-    subst (λ (l : List Received). Appends before after (append_lines input l))
-    (added_is old new added all count is.appended.new_is all_is count_is) printed in
-    record { appends = is; printed = prints before after (append_lines input added) appended lines }
+all_printed inputs files input source old new before after appended is all count all_is count_is printed = record {
+  appends = is;
+  printed = prints before after _ appended
+      (rw (added_is old new is.appended.added all count is.appended.new_is all_is count_is) at printed);
+}

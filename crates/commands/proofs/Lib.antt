@@ -3,6 +3,7 @@ pub mod Assembled
 pub mod BatchLaws
 pub mod Checked
 pub mod FileLaws
+pub mod Kept
 pub mod Loaded
 pub mod Marks
 pub mod RecheckLaws

@@ -1,5 +1,5 @@
 -- What is known of the names that a script loads, and what a load, a fetch and a report print.
-use Rattle.std.proofs.Common.{◌≡◌, ℕ, List, [], ◌∷◌, refl, sym, ap, subst, ◌∙◌}
+use Rattle.std.proofs.Common.{◌≡◌, ℕ, List, [], ◌∷◌, refl, sym, ap, ◌∙◌}
 use Rattle.std.proofs.Common.{Bool, true, false, cond, Option, Some, None, Bor, string_bytes, IfSome, IsSome}
 use Rattle.std.proofs.Common.{Result, Ok, Err, OnOk, OnErr, IfErr}
 use Rattle.std.specs.Prelude.{⊤}
@@ -11,8 +11,10 @@ use Rattle.std.proofs.lemmas.{Map.Text.btree_map_updates_text, Map.Text.is_eq-sl
 use Rattle.machine_spec.specs.{Image.Program, Image.program_of, declared.helper.Table.Table}
 use Rattle.script.specs.Texts.{load_line, fetch_line}
 use Rattle.catalogue.specs.Versions.{Version}
+use Rattle.part_log.specs.Parts.{Log}
 use Rattle.broker.specs.{Deployments.LoadIs, Fetches.IsFetch}
 use Rattle.report.specs.{Snapshots.Gathered, Snapshots.IsGathered, Texts.report_text, Writes.Writes}
+use Rattle.commands.specs.Sessions.{Running, session_of}
 use Rattle.commands.specs.Sessions.{Scripted, by_text, known_of, AreOfNames, Learns, Loads, IsPrinted, Fetches, Reports}
 use Rattle.commands.specs.{declared.stop.Stop.Stop, Stops.IsUnwritten}
 
@@ -52,26 +54,32 @@ pub still_of_names : (known : Version) (old new : List (List ℕ × Version)) �
     ((name : List ℕ) → known_of new name ≡ cond (bytes_eq known.name name) (Some known) (known_of old name)) →
     AreOfNames new
 still_of_names known old new given are name =
-    subst (λ (found : Option Version). IfSome found (λ k. k.name ≡ name)) (sym (are name))
-    (of_name known (known_of old name) name (bytes_eq known.name name) refl (given name))
+    rw (are name) (of_name known (known_of old name) name (bytes_eq known.name name) refl (given name))
 
--- what a map has under a text is known of the name
-pub map_known : {Y : Type 0} (map : BTreeMap (String Y) Version) (text name : List ℕ)
-    (loaded : List (List ℕ × Version)) → text ≡ name → by_text map.entries ≡ loaded →
-    get_by_text map text ≡ known_of loaded name
-map_known map text name loaded same is =
-    text_known map text ∙ ap (known_of (by_text map.entries)) same
-    ∙ ap (λ (l : List (List ℕ × Version)). known_of l name) is
+-- what the map of a session has under a text is known of the name
+pub of_session : {Y : Type 0} (map : BTreeMap (String Y) Version) {text inner name : List ℕ} {inputs : ℕ}
+    {refusing : Option Log} {seen : Running} → text ≡ inner → inner ≡ name →
+    session_of inputs (by_text map.entries) refusing ≡ seen → get_by_text map text ≡ known_of seen.script.loaded name
+of_session map {text = text} first then is = rw (← is, ← then, ← first) (text_known map text)
+
+-- what is found there is of that name
+pub named : {Y : Type 0} (map : BTreeMap (String Y) Version) {text inner name : List ℕ} {inputs : ℕ}
+    {refusing : Option Log} {seen : Running} {found : Version} → text ≡ inner → inner ≡ name →
+    session_of inputs (by_text map.entries) refusing ≡ seen → AreOfNames (by_text map.entries) →
+    Some found ≡ get_by_text map text → found.name ≡ name
+named map {name = name} {found = found} first then is all there =
+    let known : known_of (by_text map.entries) name ≡ Some found =
+    sym (there ∙ text_known map _ ∙ ap (known_of (by_text map.entries)) (first ∙ then)) in
+    rw known at (all name)
 
 -- a map that takes a version, or is as it was, has versions of their names
 pub still_named : {Y A B : Type 0} (key : List ℕ) (known : Version) (old new : BTreeMap (String Y) Version)
     (result : Result A B) → known.name ≡ key →
     OnOk result (UpdatesBy string_cmp (λ k. slice_cmp nat_cmp key (string_bytes k)) old new (Some known)) →
     OnErr result (new.entries ≡ old.entries) → AreOfNames (by_text old.entries) → AreOfNames (by_text new.entries)
-still_named {Y} key known old new (Ok done) same updates err given =
+still_named key known old new (Ok done) same updates err given =
     still_of_names known (by_text old.entries) (by_text new.entries) given (learned key known old new same updates)
-still_named {Y} key known old new (Err failed) same updates err given =
-    subst (λ (es : List (String Y × Version)). AreOfNames (by_text es)) (sym err) given
+still_named key known old new (Err failed) same updates err given = rw err given
 
 -- what is known is found
 pub not_none : {X : Type 0} (found : Option (Bor X)) (known : Option X) → option_copied found ≡ known →
@@ -92,13 +100,12 @@ pub loads : (name text image : List ℕ) (table : Table) (loaded : ℕ × Versio
     LoadIs text (program_of image table) (Ok loaded) → text ≡ name → Learns loaded.1 old new →
     line ≡ load_line text loaded.0 → Loads name image table old new line
 loads name text image table loaded old new line (live, next, published) same knows is =
-    let number : loaded.0 ≡ loaded.1.number = published.2 in
+    let load : LoadIs text (program_of image table) (Ok (loaded.0, loaded.1)) = (live, next, published) in
     record {
       known = loaded.1;
-      loaded = subst (λ (t : List ℕ). LoadIs t (program_of image table) (Ok (loaded.1.number, loaded.1))) same
-          (subst (λ (n : ℕ). LoadIs text (program_of image table) (Ok (n, loaded.1))) number (live, next, published));
+      loaded = rw (same, published.2) at load;
       learned = knows;
-      line_is = is ∙ ap (λ (t : List ℕ). load_line t loaded.0) same ∙ ap (load_line name) number;
+      line_is = rw (same, published.2) at is;
     }
 
 -- ---- A fetch and a report
@@ -109,20 +116,11 @@ pub fetches : (cells : ℕ → List ℕ) (number inputs outputs output place max
     inputs ≡ number → IsPrinted before after (fetch_line found) result →
     Fetches cells inputs outputs output place max before after result
 fetches cells number inputs outputs output place max found before after result is same printed =
-    record {
-      found = found;
-      fetched = subst (λ (n : ℕ). IsFetch cells n outputs output place max found) (sym same) is;
-      printed = printed;
-    }
+    record { found = found; fetched = rw same is; printed = printed }
 
 pub reports : (number inputs outputs : ℕ) (snapshot : Gathered) (before after : Option (List ℕ))
     (result : Result ⊤ Stop) → IsGathered number outputs snapshot → inputs ≡ number →
     Writes before after (report_text snapshot) result → IfErr result IsUnwritten →
     Reports inputs outputs before after result
 reports number inputs outputs snapshot before after result is same printed ends =
-    record {
-      snapshot = snapshot;
-      gathered = subst (λ (n : ℕ). IsGathered n outputs snapshot) (sym same) is;
-      printed = printed;
-      ends = ends;
-    }
+    record { snapshot = snapshot; gathered = rw same is; printed = printed; ends = ends }

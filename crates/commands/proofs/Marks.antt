@@ -10,8 +10,7 @@ use Rattle.commands.specs.Sessions.{IsMark, IsMarkFault}
 pub deployed : (number input : ℕ) (given name : List ℕ) (known : Version) (old new : Seen) (marked : Received × ℕ) →
     DeployIs number input given known old (Ok marked) new → given ≡ name → IsMark input name marked.1 marked.0
 deployed number input given name known old new marked is same =
-    subst (λ (n : List ℕ). IsMark input n marked.1 marked.0) same
-    (is.1.program, (is.1.partition_is, is.1.item_is))
+    rw (← same) (is.1.program, (is.1.partition_is, is.1.item_is))
 
 pub not_deployed : {A : Type 0} (number inputs input : ℕ) (given name : List ℕ) (version : Version)
     (known : Option Version) (old new : Seen) (fault : BrokerFault) (result : Result A Stop) →

@@ -1,5 +1,5 @@
 -- What standard output holds after a text was written and flushed.
-use Rattle.std.proofs.Common.{◌≡◌, ℕ, List, ◌∙◌, sym, subst, Option, Some, None, Result, Ok, Err, OnOk, IfOk, IfErr}
+use Rattle.std.proofs.Common.{◌≡◌, ℕ, List, ◌∙◌, Option, Some, None, Result, Ok, Err, OnOk, IfOk, IfErr}
 use Rattle.std.proofs.Common.{IsOkAnd, IsErrAnd}
 use Rattle.std.specs.Prelude.{⊤}
 use Rattle.std.specs.Io.KnownBytes.{Appends, Keeps}
@@ -14,16 +14,11 @@ appended_and_kept (Some xs) None flushed text a k = absurd a
 appended_and_kept (Some xs) (Some ys) None text a k = absurd k
 appended_and_kept (Some xs) (Some ys) (Some zs) text a k = k ∙ a
 
-pub same_text : (before after : Option (List ℕ)) (text line : List ℕ) → Appends before after text → text ≡ line →
-    Appends before after line
-same_text before after text line written is = subst (λ (t : List ℕ). Appends before after t) is written
-
 -- There was memory for a line, which was written.
 pub line_printed : {A E : Type 0} (made : Result A E) (view : A → List ℕ) (before after : Option (List ℕ))
     (line : List ℕ) → IsOkAnd made (λ text. Appends before after (view text)) → IfOk made (λ text. view text ≡ line) →
     Appends before after line
-line_printed (Ok text) view before after line written is =
-    same_text before after (view text) line written is
+line_printed (Ok text) view before after line written is = rw is at written
 line_printed (Err fault) view before after line written is = absurd written
 
 -- A line was printed if there was memory for it and it was written.
@@ -39,4 +34,4 @@ pub has_begun : (before after : Option (List ℕ)) (text : List ℕ) (reason : S
     HasBegun before after text → IsErrAnd result (λ r. r ≡ reason) → IsUnwritten reason →
     Writes before after text result × IfErr result IsUnwritten
 has_begun before after text reason (Ok done) begun is failed = absurd is
-has_begun before after text reason (Err given) begun is failed = (begun, subst IsUnwritten (sym is) failed)
+has_begun before after text reason (Err given) begun is failed = (begun, rw is failed)

@@ -8,8 +8,8 @@ use Rattle.broker.specs.{Streams.Appended, declared.fault.BrokerFault.BrokerFaul
 use Rattle.broker.specs.declared.fault.BrokerFault.TheVariants.{Partition, NoProgram, Memory}
 use Rattle.broker.specs.declared.fault.BrokerFault.TheVariants.{Catalogue as CatalogueRefuses, Log as LogRefuses}
 use Rattle.broker.specs.declared.fault.BrokerFault.TheVariants.{Book as BookRefuses}
-use Rattle.script.specs.{declared.command.Source.Source, Texts.append_line}
-use Rattle.script.specs.declared.command.Source.TheVariants.{Line, File}
+use Rattle.script.specs.{declared.command.FileWord.FileWord, Texts.append_line}
+use Rattle.script.specs.declared.command.FileWord.TheVariants.{Line, File}
 use Rattle.commands.specs.declared.stop.Stop.{Stop}
 use Rattle.commands.specs.declared.stop.Stop.TheVariants as stop
 
@@ -22,12 +22,12 @@ abbrev pub append_lines : ℕ → List Received → List ℕ
 append_lines input receipts = flat_map (line_of input) receipts
 
 -- the bytes that a command names, where they are known: those in its line, or those of a file
-abbrev pub bytes_of : (List ℕ → Option (List ℕ)) → Source → Option (List ℕ)
+abbrev pub bytes_of : (List ℕ → Option (List ℕ)) → FileWord → Option (List ℕ)
 bytes_of files (Line bytes) = Some bytes
 bytes_of files (File name) = files name
 
 -- why a command ends whose bytes can't be read; for bytes in its line there is no file, so memory ran out
-abbrev pub unread_of : Source → Stop
+abbrev pub unread_of : FileWord → Stop
 unread_of (Line bytes) = stop.Memory
 unread_of (File name) = stop.File name
 
@@ -79,7 +79,7 @@ Prints before after text (Err stop.Memory) = ⊤
 
 -- What `append` does: it appends the batches of the bytes that it names, and prints a line for each, also for those
 -- before a fault.
-pub record AppendDoes (inputs : ℕ) (files : List ℕ → Option (List ℕ)) (input : ℕ) (source : Source)
+pub record AppendDoes (inputs : ℕ) (files : List ℕ → Option (List ℕ)) (input : ℕ) (source : FileWord)
     (old new : List Received) (before after : Option (List ℕ)) (result : Result ⊤ Stop) : Type 0 where
   pub appends : AppendsOf inputs input (bytes_of files source) (unread_of source) old new result
   pub printed : Prints before after (append_lines input appends.appended.added) result

@@ -22,7 +22,7 @@ use Rattle.commands.specs.declared.{halts.Halt.Halt, status.Status.Status}
 use Rattle.commands.specs.declared.halts.Halt.TheVariants as halt
 use Rattle.commands.specs.declared.status.Status.TheVariants.{Done, Refused, Failed}
 use Rattle.command_line.specs.Calls.{AreDistinct}
-use Rattle.commands.specs.{Images.first_bytes, Listings.source_of}
+use Rattle.commands.specs.{Files.KeepsAll, Images.first_bytes, Listings.source_of}
 use Rattle.commands.specs.Stops as stops
 
 -- ---- what a file has
@@ -52,10 +52,6 @@ IsNoOutput names other = (output : ℕ) → output + 2 < length names → other 
 -- all files but those of the output partitions have the bytes that they had
 abbrev pub KeepsOthers : List (List ℕ) → (before after : List ℕ → Option (List ℕ)) → Type 0
 KeepsOthers names before after = (other : List ℕ) → IsNoOutput names other → after other ≡ before other
-
--- all files have the bytes that they had
-abbrev pub KeepsAll : (before after : List ℕ → Option (List ℕ)) → Type 0
-KeepsAll before after = (other : List ℕ) → after other ≡ before other
 
 -- one batch more might reach the offset 2^62, and the bytes begin with one
 abbrev pub IsAtLimit : List Batch → List ℕ → Type 0

@@ -1,6 +1,8 @@
 pub mod Appends
 pub mod Explanations
 pub mod FileTransforms
+pub mod Files
+pub mod Hosts
 pub mod Images
 pub mod Listings
 pub mod Puts

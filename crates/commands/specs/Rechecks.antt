@@ -5,7 +5,7 @@ use Rattle.std.specs.List.{AllZip, flat_map, list_any, slice_split}
 use Rattle.std.specs.{Result.is_err, Str.bytes_eq, Io.KnownBytes.Appends}
 use Rattle.machine_spec.specs.{Image.Program, declared.helper.Table.Table}
 use Rattle.verifier_spec.specs.{Loading.IsAccepted, Loading.IsRefusedWith, declared.fault.LoadFault.LoadFault}
-use Rattle.script.specs.{declared.command.Source.TheVariants.File, declared.fault.ScriptFault.TheVariants.Syntax}
+use Rattle.script.specs.{declared.command.FileWord.TheVariants.File, declared.fault.ScriptFault.TheVariants.Syntax}
 use Rattle.script.specs.{Words.words_of, Words.word_at}
 use Rattle.commands.specs.declared.{run.Ended.Ended, stop.Stop.Stop, status.Status.Status}
 use Rattle.commands.specs.declared.status.Status.TheVariants.{Done, Refused, Failed}

@@ -14,10 +14,10 @@ use Rattle.broker.specs.{Answers.AppendsTo, Layouts.Layout, Fetches.IsFetch, Fet
 use Rattle.broker.specs.Deployments.{LoadIs, DeployIs, IsNoReader}
 use Rattle.broker.specs.declared.{ended.Ended.Ended, fault.BrokerFault.BrokerFault}
 use Rattle.broker.specs.declared.fault.BrokerFault.TheVariants.{Partition as Absent, Log as LogRefuses}
-use Rattle.script.specs.{declared.command.Command.Command, declared.command.Source.Source}
+use Rattle.script.specs.{declared.command.Command.Command, declared.command.FileWord.FileWord}
 use Rattle.script.specs.{declared.fault.ScriptFault.ScriptFault, Faults.fault_of}
 use Rattle.script.specs.declared.command.Command.TheVariants.{Partitions, Load, Deploy, Put, Append, Close, Fetch, Go}
-use Rattle.script.specs.declared.command.Source.TheVariants.{Line, File}
+use Rattle.script.specs.declared.command.FileWord.TheVariants.{Line, File}
 use Rattle.script.specs.declared.fault.ScriptFault.TheVariants.{Syntax}
 use Rattle.script.specs.Texts.{load_line, deploy_line, close_line, fetch_line}
 use Rattle.report.specs.Snapshots.{Gathered, IsGathered, IsGatherFault}
@@ -49,7 +49,7 @@ abbrev pub IsMark : ℕ → List ℕ → ℕ → Received → Type 0
 IsMark input name version receipt = (program : Program) × IsReceiptOf input (Marked name version program) receipt
 
 -- the image that a command names: the bytes in its line, or the first bytes of a file, where they are known
-abbrev pub IsImageIn : (List ℕ → Option (List ℕ)) → Source → List ℕ → Type 0
+abbrev pub IsImageIn : (List ℕ → Option (List ℕ)) → FileWord → List ℕ → Type 0
 IsImageIn files (Line bytes) image = image ≡ bytes
 IsImageIn files (File name) image = (bytes : List ℕ) → files name ≡ Some bytes → image ≡ first_bytes bytes
 
@@ -147,13 +147,13 @@ pub record Loads (name image : List ℕ) (table : Table) (old new : Scripted) (l
   pub line_is : line ≡ load_line name known.number
 
 -- why no image is loaded under a name: it can't be read, or the broker refuses to load it
-abbrev pub LoadFails : (List ℕ → Option (List ℕ)) → List ℕ → Source → Table → Stop → Type 0
+abbrev pub LoadFails : (List ℕ → Option (List ℕ)) → List ℕ → FileWord → Table → Stop → Type 0
 LoadFails files name source table reason = (reason ≡ unread_of source)
     ⊎ ((image : List ℕ) × IsImageIn files source image
     × EndsFor (λ fault. LoadIs name (program_of image table) (Err fault)) reason)
 
 -- What `load` does: it loads the image that it names, and prints its line.
-abbrev pub LoadDoes : (List ℕ → Option (List ℕ)) → List ℕ → Source → Table → Scripted → Scripted → Option (List ℕ) →
+abbrev pub LoadDoes : (List ℕ → Option (List ℕ)) → List ℕ → FileWord → Table → Scripted → Scripted → Option (List ℕ) →
     Option (List ℕ) → Result ⊤ Stop → Type 0
 LoadDoes files name source table old new before after result =
     ((new ≡ old) × Refused (LoadFails files name source table) before after result)

@@ -14,87 +14,80 @@ use crate::reading::cause_of;
 use crate::stop::{Stop, end_of_stream, stop_of_unread};
 use broker::{Broker, BrokerFault};
 use part_log::{LogFault, Names, Receipt, Trail};
-use script::{Command, FileName, Source, append_text};
+use script::{Command, FileName, FileWord, append_text};
 use std::alloc::Global;
 use std::io::{Read, Write};
 use std::sync::Wait;
 use wire_spec::MAX_PIECE;
 
+/// An input partition of a broker, and what an append to it takes.
+#[derive(Drop)]
+pub struct Target<'a, Id: Names, C, W> {
+    pub rt: &'a W,
+    pub alloc: Global,
+    pub broker: &'a Broker<Id, C>,
+    pub input: u64,
+}
+
 /// Appends the batches of a command's bytes.
 pub fn append_source<Id: Names, C, W: Wait, F: Files>(
-    rt: &W,
-    alloc: Global,
-    broker: &Broker<Id, C>,
+    target: &Target<'_, Id, C, W>,
     files: &mut F,
-    input: u64,
-    source: Source,
+    source: FileWord,
     receipts: &mut Vec<Receipt<Id>>,
 ) -> Result<(), Stop>
-    ensures { AppendsOf broker.now input (bytes_of (F.bytes files.old) source) (unread_of source) receipts.old.items receipts.new.items result }
+    ensures { AppendsOf target.now.broker.now target.now.input (bytes_of (F.bytes files.old) source) (unread_of source) receipts.old.items receipts.new.items result }
 {
     match source {
-        Source::Line(bytes) => append_bytes(rt, alloc, broker, input, &bytes, receipts),
-        Source::File(name) => append_file(rt, alloc, broker, files, input, name, receipts),
+        FileWord::Line(bytes) => append_bytes(target, &bytes, receipts),
+        FileWord::File(name) => append_file(target, files, name, receipts),
     }
 }
 
 fn append_bytes<Id: Names, C, W: Wait>(
-    rt: &W,
-    alloc: Global,
-    broker: &Broker<Id, C>,
-    input: u64,
+    target: &Target<'_, Id, C, W>,
     bytes: &[u8],
     receipts: &mut Vec<Receipt<Id>>,
 ) -> Result<(), Stop>
-    ensures { AppendsOf broker.now input (Some bytes.now) stop.Memory receipts.old.items receipts.new.items result }
+    ensures { AppendsOf target.now.broker.now target.now.input (Some bytes.now) stop.Memory receipts.old.items receipts.new.items result }
 {
     let mut reader = bytes;
-    append_from(
-        rt,
-        alloc,
-        broker,
-        input,
-        &mut reader,
-        Stop::Memory,
-        receipts,
-    )
+    append_from(target, &mut reader, Stop::Memory, receipts)
 }
 
 /// The file is opened before its input partition is looked for, and read after it.
+#[tactic(auto, using(crate::proofs::AppendLaws::unopened))]
 fn append_file<Id: Names, C, W: Wait, F: Files>(
-    rt: &W,
-    alloc: Global,
-    broker: &Broker<Id, C>,
+    target: &Target<'_, Id, C, W>,
     files: &mut F,
-    input: u64,
     name: FileName,
     receipts: &mut Vec<Receipt<Id>>,
 ) -> Result<(), Stop>
-    ensures { AppendsOf broker.now input (F.bytes files.old name) (stop.File name) receipts.old.items receipts.new.items result }
+    ensures { AppendsOf target.now.broker.now target.now.input (F.bytes files.old name) (stop.File name) receipts.old.items receipts.new.items result }
 {
     match files.open(name.text.as_str()) {
         Err(error) => Err(stop_of_unread(name, cause_of(&error))),
-        Ok(mut reader) => {
-            let unread = Stop::File(name);
-            append_from(rt, alloc, broker, input, &mut reader, unread, receipts)
-        }
+        Ok(mut reader) => append_from(target, &mut reader, Stop::File(name), receipts),
     }
 }
 
 /// Appends the batches of a reader's bytes, of which at most `MAX_PIECE` are read at once.
 fn append_from<Id: Names, C, W: Wait, R: Read>(
-    rt: &W,
-    alloc: Global,
-    broker: &Broker<Id, C>,
-    input: u64,
+    target: &Target<'_, Id, C, W>,
     reader: &mut R,
     unread: Stop,
     receipts: &mut Vec<Receipt<Id>>,
 ) -> Result<(), Stop>
     requires { IsUnread unread }
-    ensures { AppendsOf broker.now input (R.remaining reader.old) unread receipts.old.items receipts.new.items result }
+    ensures { AppendsOf target.now.broker.now target.now.input (R.remaining reader.old) unread receipts.old.items receipts.new.items result }
 {
-    let appended = broker.append_from(rt, alloc, input as usize, reader, MAX_PIECE, receipts);
+    let Target {
+        rt,
+        alloc,
+        broker,
+        input,
+    } = target;
+    let appended = broker.append_from(*rt, *alloc, *input as usize, reader, MAX_PIECE, receipts);
     end_of_stream(appended, unread)
 }
 
@@ -212,7 +205,6 @@ fn shows<Id: Names, C>(broker: &Broker<Id, C>, trail: &Trail<Id>, fault: LogFaul
 }
 
 /// Whether the last item of a trail is the end of its log.
-#[tactic(auto, using(crate::proofs::ShownLaws::closed_by))]
 fn has_end<Id: Names, C>(broker: &Broker<Id, C>, trail: &Trail<Id>) -> bool
     requires { trail.now.partition < broker.now }
     ensures { result ≡ true → is_closed trail.now.items ≡ true }

@@ -9,18 +9,21 @@ use bytes::Bytes;
 use std::alloc::{AllocError, Global};
 use wire_spec::{Batch, Headers, MAX_KEY, MAX_VALUE, Record, Records, TIMESTAMP_END};
 
+/// A record that `put` appends, with its time in milliseconds.
+#[derive(Drop)]
+pub struct Put {
+    pub timestamp: u64,
+    pub key: Option<Bytes>,
+    pub value: Option<Bytes>,
+}
+
 /// A batch of one record.
 #[tactic(auto, using(crate::proofs::BatchLaws::put_fits))]
-pub fn batch_of(
-    alloc: Global,
-    timestamp: u64,
-    key: Option<Bytes>,
-    value: Option<Bytes>,
-) -> Result<Batch, AllocError>
-    requires timestamp { timestamp < TIMESTAMP_END }
-    requires key { text_size key ≤ MAX_KEY }
-    requires value { text_size value ≤ MAX_VALUE }
-    ensures batch { IfOk result (λ batch. batch ≡ put_batch timestamp key value) }
+pub fn batch_of(alloc: Global, put: Put) -> Result<Batch, AllocError>
+    requires timestamp { put.timestamp < TIMESTAMP_END }
+    requires key { text_size put.key ≤ MAX_KEY }
+    requires value { text_size put.value ≤ MAX_VALUE }
+    ensures batch { IfOk result (λ batch. batch ≡ put_batch put.timestamp put.key put.value) }
     ensures fits { IfOk result FitsLog }
 {
     let headers = Headers {
@@ -29,14 +32,14 @@ pub fn batch_of(
     let mut list = Vec::new(alloc);
     list.push(Record {
         timestamp_delta: 0,
-        key,
-        value,
+        key: put.key,
+        value: put.value,
         headers,
     })?;
     Ok(Batch {
         base_offset: 0,
         leader_epoch: 0,
-        base_timestamp: timestamp as i64,
+        base_timestamp: put.timestamp as i64,
         producer_id: -1,
         producer_epoch: -1,
         base_sequence: -1,

@@ -6,6 +6,8 @@ ghost use Rattle.bpf_asm.specs.Images.{image_of};
 ghost use Rattle.commands.specs.declared.status.Status.TheVariants as exit;
 ghost use Rattle.commands.specs.Explanations as explanations;
 ghost use Rattle.commands.specs.Explanations.{PrintsExplanation};
+ghost use Rattle.commands.specs.Files.{KeepsAll, KeepsBut};
+ghost use Rattle.commands.specs.Hosts.{PrintsOfFile};
 ghost use Rattle.machine_spec.specs.Image.{program_of};
 ghost use Rattle.machine_spec.specs.declared.instruction.IsaFault.TheVariants as isa;
 ghost use Rattle.commands.specs.Images.{first_bytes, PrintsCheck};
@@ -16,6 +18,7 @@ use crate::dis::disassembly;
 use crate::distinct::transform_distinct;
 use crate::explaining::{no_code_text, refusal_text, status_of_explained};
 use crate::files::Files;
+use crate::host::Host;
 use crate::image::{Refused, check, read_image};
 use crate::listing::list;
 use crate::reading::{Unread, read_file, read_whole};
@@ -26,24 +29,22 @@ use crate::telling::{print_text, tell, tell_memory, tell_refused, tell_text, tel
 use crate::usage::{list_calls, tell_usage};
 use bpf_asm::{AsmFault, assemble};
 use command_line::{Call, ImageCall, Misuse, call_of};
-use explain::{Explanation, Extent, explain_image};
+use explain::{Coverage, Explanation, explain_image};
 use machine_spec::{IsaFault, Table};
 use std::alloc::Global;
 use std::io::{Read, Write};
 use std::sync::Wait;
 use std::thread::Threads;
 
-/// The whole text of a script; `stdin` is standard input.
-fn script_text<F: Files, I: Read>(
-    alloc: Global,
-    files: &mut F,
-    stdin: &mut I,
+/// The whole text of a script; the name `stdin` is standard input.
+fn script_text<F: Files, I: Read, O, E>(
+    host: &mut Host<F, I, O, E>,
     name: &str,
 ) -> Result<String, Unread> {
     let bytes = if name == "stdin" {
-        read_whole(alloc, stdin)?
+        read_whole(host.alloc, &mut host.stdin)?
     } else {
-        read_file(alloc, files, name)?
+        read_file(host.alloc, &mut host.files, name)?
     };
     utf8(bytes)
 }
@@ -51,20 +52,22 @@ fn script_text<F: Files, I: Read>(
 /// Does the commands of a script, and answers the status.
 fn run<R: Threads + Wait + Sync, F: Files, I: Read, O: Write, E: Write>(
     rt: &R,
-    alloc: Global,
-    files: &mut F,
-    stdin: &mut I,
-    stdout: &mut O,
-    stderr: &mut E,
+    host: &mut Host<F, I, O, E>,
     name: &str,
 ) -> Status {
-    let script = match script_text(alloc, files, stdin, name) {
+    let script = match script_text(host, name) {
         Ok(script) => script,
-        Err(unread) => return tell_unread(alloc, stderr, name, unread),
+        Err(unread) => return tell_unread(host.alloc, &mut host.stderr, name, unread),
     };
-    match run_script(rt, alloc, files, stdout, script.as_str()) {
+    match run_script(
+        rt,
+        host.alloc,
+        &mut host.files,
+        &mut host.stdout,
+        script.as_str(),
+    ) {
         Ok(()) => Status::Done,
-        Err(ended) => tell(alloc, stderr, &ended),
+        Err(ended) => tell(host.alloc, &mut host.stderr, &ended),
     }
 }
 
@@ -85,6 +88,7 @@ fn print_answer<O: Write, E: Write>(
 
 /// Verifies the program of an image and a helper table and prints how many instructions it has, or says
 /// why it is refused; answers the status.
+#[tactic(auto, using(crate::proofs::Checked::checked))]
 fn check_bytes<O: Write, E: Write>(
     alloc: Global,
     stdout: &mut O,
@@ -98,25 +102,27 @@ fn check_bytes<O: Write, E: Write>(
 }
 
 /// Verifies the program of the image in a file and a helper table; answers the status.
-fn check_file<F: Files, O: Write, E: Write>(
-    alloc: Global,
-    files: &mut F,
-    stdout: &mut O,
-    stderr: &mut E,
+fn check_file<F: Files, I, O: Write, E: Write>(
+    host: &mut Host<F, I, O, E>,
     name: &str,
     table: Table,
 ) -> Status
-    ensures printed { (bytes : List ℕ) → F.bytes files.old name.now ≡ Some bytes
-        → PrintsCheck (program_of (first_bytes bytes) table) result (O.contents stdout.old) (O.contents stdout.new) }
-    ensures kept { (other : List ℕ) → F.bytes files.new other ≡ F.bytes files.old other }
+    ensures { PrintsOfFile F.bytes O.contents host.old host.new name.now (λ bytes. PrintsCheck (program_of (first_bytes bytes) table) result) }
 {
-    match read_image(alloc, files, name) {
-        Ok(image) => check_bytes(alloc, stdout, stderr, image.as_slice(), table),
-        Err(unread) => tell_unread(alloc, stderr, name, unread),
+    match read_image(host.alloc, &mut host.files, name) {
+        Ok(image) => check_bytes(
+            host.alloc,
+            &mut host.stdout,
+            &mut host.stderr,
+            image.as_slice(),
+            table,
+        ),
+        Err(unread) => tell_unread(host.alloc, &mut host.stderr, name, unread),
     }
 }
 
 /// Prints the text of an image, or says why it is refused; answers the status.
+#[tactic(auto, using(crate::proofs::Checked::disassembled))]
 fn disassemble_bytes<O: Write, E: Write>(
     alloc: Global,
     stdout: &mut O,
@@ -129,19 +135,20 @@ fn disassemble_bytes<O: Write, E: Write>(
 }
 
 /// Prints the text of the image in a file, or says why it is refused; answers the status.
-fn disassemble_file<F: Files, O: Write, E: Write>(
-    alloc: Global,
-    files: &mut F,
-    stdout: &mut O,
-    stderr: &mut E,
+fn disassemble_file<F: Files, I, O: Write, E: Write>(
+    host: &mut Host<F, I, O, E>,
     name: &str,
 ) -> Status
-    ensures printed { (bytes : List ℕ) → F.bytes files.old name.now ≡ Some bytes → texts.PrintsAs (λ text. text) (texts.disassembly (first_bytes bytes)) result (O.contents stdout.old) (O.contents stdout.new) }
-    ensures kept { (other : List ℕ) → F.bytes files.new other ≡ F.bytes files.old other }
+    ensures { PrintsOfFile F.bytes O.contents host.old host.new name.now (λ bytes. texts.PrintsAs (λ text. text) (texts.disassembly (first_bytes bytes)) result) }
 {
-    match read_image(alloc, files, name) {
-        Ok(image) => disassemble_bytes(alloc, stdout, stderr, image.as_slice()),
-        Err(unread) => tell_unread(alloc, stderr, name, unread),
+    match read_image(host.alloc, &mut host.files, name) {
+        Ok(image) => disassemble_bytes(
+            host.alloc,
+            &mut host.stdout,
+            &mut host.stderr,
+            image.as_slice(),
+        ),
+        Err(unread) => tell_unread(host.alloc, &mut host.stderr, name, unread),
     }
 }
 
@@ -196,7 +203,7 @@ fn explain_bytes<O: Write, E: Write>(
     stderr: &mut E,
     image: &[u8],
     table: Table,
-    extent: Extent,
+    extent: Coverage,
 ) -> Status
     ensures { PrintsExplanation extent (program_of image.now table) result (O.contents stdout.old) (O.contents stdout.new) }
 {
@@ -207,23 +214,26 @@ fn explain_bytes<O: Write, E: Write>(
 }
 
 /// Explains the program of the image in a file and a helper table; answers the status.
-fn explain_file<F: Files, O: Write, E: Write>(
-    alloc: Global,
-    files: &mut F,
-    stdout: &mut O,
-    stderr: &mut E,
+fn explain_file<F: Files, I, O: Write, E: Write>(
+    host: &mut Host<F, I, O, E>,
     name: &str,
     table: Table,
-    extent: Extent,
+    extent: Coverage,
 ) -> Status
-    ensures printed { (bytes : List ℕ) → F.bytes files.old name.now ≡ Some bytes
-        → PrintsExplanation extent (program_of (first_bytes bytes) table) result (O.contents stdout.old) (O.contents stdout.new) }
-    ensures kept { (other : List ℕ) → F.bytes files.new other ≡ F.bytes files.old other }
+    ensures { PrintsOfFile F.bytes O.contents host.old host.new name.now (λ bytes. PrintsExplanation extent (program_of (first_bytes bytes) table) result) }
 {
-    match read_image(alloc, files, name) {
-        Ok(image) => explain_bytes(alloc, stdout, stderr, image.as_slice(), table, extent),
-        Err(unread) => tell_unread(alloc, stderr, name, unread),
-    }
+    let image = match read_image(host.alloc, &mut host.files, name) {
+        Ok(image) => image,
+        Err(unread) => return tell_unread(host.alloc, &mut host.stderr, name, unread),
+    };
+    explain_bytes(
+        host.alloc,
+        &mut host.stdout,
+        &mut host.stderr,
+        image.as_slice(),
+        table,
+        extent,
+    )
 }
 
 /// Says at which line a text is refused and why, and answers the status.
@@ -249,7 +259,7 @@ fn put_image<F: Files, E: Write>(
     image: &[u8],
 ) -> Status
     ensures written { texts.WritesAs (Ok image.now) result (F.bytes files.old name.now) (F.bytes files.new name.now) }
-    ensures kept { (other : List ℕ) → other ≢ name.now → F.bytes files.new other ≡ F.bytes files.old other }
+    ensures kept { KeepsBut name.now (F.bytes files.old) (F.bytes files.new) }
 {
     match write_image(files, name, image) {
         Ok(()) => Status::Done,
@@ -259,6 +269,7 @@ fn put_image<F: Files, E: Write>(
 
 /// Writes the image of a text to a file, or says why the text is refused, and writes no file; answers
 /// the status. Files of other names stay.
+#[tactic(auto, using(crate::proofs::Assembled::told_text))]
 fn assemble_text<F: Files, E: Write>(
     alloc: Global,
     files: &mut F,
@@ -267,8 +278,8 @@ fn assemble_text<F: Files, E: Write>(
     image: &str,
 ) -> Status
     ensures written { texts.WritesAs (image_of text.now) result (F.bytes files.old image.now) (F.bytes files.new image.now) }
-    ensures refused { result ≡ exit.Refused → (other : List ℕ) → F.bytes files.new other ≡ F.bytes files.old other }
-    ensures kept { (other : List ℕ) → other ≢ image.now → F.bytes files.new other ≡ F.bytes files.old other }
+    ensures refused { result ≡ exit.Refused → KeepsAll (F.bytes files.old) (F.bytes files.new) }
+    ensures kept { KeepsBut image.now (F.bytes files.old) (F.bytes files.new) }
 {
     match assemble(alloc, text) {
         Ok(bytes) => put_image(alloc, files, stderr, image, &bytes),
@@ -278,6 +289,7 @@ fn assemble_text<F: Files, E: Write>(
 
 /// Writes the image of the text in a file to another file, or says why the text is refused or can't be
 /// read, and writes no file; answers the status. Files of other names stay.
+#[tactic(auto, using(crate::proofs::Kept::kept))]
 fn assemble_file<F: Files, E: Write>(
     alloc: Global,
     files: &mut F,
@@ -287,8 +299,8 @@ fn assemble_file<F: Files, E: Write>(
 ) -> Status
     ensures written { (bytes : List ℕ) → F.bytes files.old text.now ≡ Some bytes
         → texts.WritesAs (image_of bytes) result (F.bytes files.old image.now) (F.bytes files.new image.now) }
-    ensures refused { result ≡ exit.Refused → (other : List ℕ) → F.bytes files.new other ≡ F.bytes files.old other }
-    ensures kept { (other : List ℕ) → other ≢ image.now → F.bytes files.new other ≡ F.bytes files.old other }
+    ensures refused { result ≡ exit.Refused → KeepsAll (F.bytes files.old) (F.bytes files.new) }
+    ensures kept { KeepsBut image.now (F.bytes files.old) (F.bytes files.new) }
 {
     match read_text(alloc, files, text) {
         Ok(source) => assemble_text(alloc, files, stderr, source.as_str(), image),
@@ -297,20 +309,17 @@ fn assemble_file<F: Files, E: Write>(
 }
 
 /// Does what is asked of an image, and answers the status.
-fn image_command<F: Files, O: Write, E: Write>(
-    alloc: Global,
-    files: &mut F,
-    stdout: &mut O,
-    stderr: &mut E,
+fn image_command<F: Files, I, O: Write, E: Write>(
+    host: &mut Host<F, I, O, E>,
     call: ImageCall<'_>,
 ) -> Status {
     match call {
-        ImageCall::Assemble(text, image) => assemble_file(alloc, files, stderr, text, image),
-        ImageCall::Check(image, table) => check_file(alloc, files, stdout, stderr, image, table),
-        ImageCall::Disassemble(image) => disassemble_file(alloc, files, stdout, stderr, image),
-        ImageCall::Explain(image, table, extent) => {
-            explain_file(alloc, files, stdout, stderr, image, table, extent)
+        ImageCall::Assemble(text, image) => {
+            assemble_file(host.alloc, &mut host.files, &mut host.stderr, text, image)
         }
+        ImageCall::Check(image, table) => check_file(host, image, table),
+        ImageCall::Disassemble(image) => disassemble_file(host, image),
+        ImageCall::Explain(image, table, extent) => explain_file(host, image, table, extent),
     }
 }
 
@@ -318,25 +327,17 @@ fn image_command<F: Files, O: Write, E: Write>(
 /// for goes to standard error. Only the call that runs a script starts threads and may wait.
 pub fn command<R: Threads + Wait + Sync, F: Files, I: Read, O: Write, E: Write>(
     rt: &R,
-    alloc: Global,
+    host: &mut Host<F, I, O, E>,
     words: &[String],
-    files: &mut F,
-    stdin: &mut I,
-    stdout: &mut O,
-    stderr: &mut E,
 ) -> Status {
-    match call_of(alloc, words) {
-        Ok(Call::Commands) => list_calls(alloc, stdout, stderr),
-        Ok(Call::Image(asked)) => image_command(alloc, files, stdout, stderr, asked),
-        Ok(Call::List(listing, file)) => {
-            list(alloc, listing, files, stdin, stdout, stderr, file)
-        }
-        Ok(Call::Recheck(list)) => recheck(alloc, files, stdout, stderr, list),
-        Ok(Call::Run(script)) => run(rt, alloc, files, stdin, stdout, stderr, script),
-        Ok(Call::Transform(table, words)) => {
-            transform_distinct(alloc, files, stdin, stderr, table, words)
-        }
-        Err(Misuse::Usage) => tell_usage(stderr).status,
-        Err(Misuse::Memory) => tell_memory(stderr),
+    match call_of(host.alloc, words) {
+        Ok(Call::Commands) => list_calls(host.alloc, &mut host.stdout, &mut host.stderr),
+        Ok(Call::Image(asked)) => image_command(host, asked),
+        Ok(Call::List(listing, file)) => list(host, listing, file),
+        Ok(Call::Recheck(list)) => recheck(host, list),
+        Ok(Call::Run(script)) => run(rt, host, script),
+        Ok(Call::Transform(table, words)) => transform_distinct(host, table, words),
+        Err(Misuse::Usage) => tell_usage(&mut host.stderr).status,
+        Err(Misuse::Memory) => tell_memory(&mut host.stderr),
     }
 }

@@ -6,28 +6,27 @@ ghost use Rattle.command_line.specs.Calls.{names_of, AreFiles};
 ghost use Rattle.commands.specs.FileTransforms.{CallWrites, KeepsIfRefused, KeepsOthers};
 
 use crate::files::Files;
+use crate::host::Host;
 use crate::status::Status;
 use crate::transforming::transform;
 use machine_spec::Table;
-use std::alloc::Global;
 use std::io::{Read, Write};
 
 /// Runs a program of a helper table on record batches by the words of an accepted call, no two of
 /// which are the same; answers the status. The image and the file of the batches stay, and all other
 /// files but those of the output partitions; these too where the image is refused.
-pub(crate) fn transform_distinct<F: Files, I: Read, E: Write>(
-    alloc: Global,
-    files: &mut F,
-    stdin: &mut I,
-    stderr: &mut E,
+#[tactic(auto, using(crate::proofs::FileLaws::sources_kept))]
+pub(crate) fn transform_distinct<F: Files, I: Read, O, E: Write>(
+    host: &mut Host<F, I, O, E>,
     table: Table,
     words: &[String],
 ) -> Status
     requires { AreFiles words.now }
-    ensures written { F.tells ≡ true → CallWrites table (names_of words.now) (I.remaining stdin.old) (F.bytes files.old) (F.bytes files.new) result }
-    ensures kept { KeepsOthers (names_of words.now) (F.bytes files.old) (F.bytes files.new) }
-    ensures refused { KeepsIfRefused table (names_of words.now) (F.bytes files.old) (F.bytes files.new) }
-    ensures sources { (word : ℕ) → word < 2 → F.bytes files.new (word_at (names_of words.now) word) ≡ F.bytes files.old (word_at (names_of words.now) word) }
+    ensures written { F.tells ≡ true → CallWrites table (names_of words.now) (I.remaining host.old.stdin) (F.bytes host.old.files) (F.bytes host.new.files) result }
+    ensures kept { KeepsOthers (names_of words.now) (F.bytes host.old.files) (F.bytes host.new.files) }
+    ensures refused { KeepsIfRefused table (names_of words.now) (F.bytes host.old.files) (F.bytes host.new.files) }
+    ensures sources { (word : ℕ) → word < 2 → F.bytes host.new.files (word_at (names_of words.now) word) ≡ F.bytes host.old.files (word_at (names_of words.now) word) }
+    ensures stdout { host.new.stdout ≡ host.old.stdout }
 {
-    transform(alloc, files, stdin, stderr, table, words)
+    transform(host, table, words)
 }

@@ -4,12 +4,12 @@ ghost use Rattle.std.specs.Prelude.{◌≡◌};
 ghost use Rattle.commands.specs.Explanations as definitions;
 
 use crate::status::Status;
-use explain::{Explanation, Refusal, image_fault_text};
+use explain::{Diagnosis, Explanation, image_fault_text};
 use machine_spec::IsaFault;
 use std::alloc::{AllocError, Global};
 
 /// The fault of a program, what it is about and what to do, each in a line.
-pub fn refusal_text(alloc: Global, refusal: &Refusal) -> Result<String, AllocError> {
+pub fn refusal_text(alloc: Global, refusal: &Diagnosis) -> Result<String, AllocError> {
     format!(in alloc; "{refusal}\n")
 }
 

@@ -88,14 +88,21 @@ fn halt_of_batch(fault: BatchFault, position: Position) -> Halt
     }
 }
 
-/// How a transform ends whose stream ended so, after these batches.
-pub(crate) fn halted(ended: Result<(), StreamFault>, position: Position) -> Result<(), Halt>
-    ensures status { status_of_ended result ≡ status_of ended }
+/// How a stream ended, and after which batches.
+#[derive(Clone, Copy, Drop)]
+pub(crate) struct Ending {
+    pub(crate) ended: Result<(), StreamFault>,
+    pub(crate) position: Position,
+}
+
+/// How a transform ends whose stream ended so.
+pub(crate) fn halted(ending: Ending) -> Result<(), Halt>
+    ensures status { status_of_ended result ≡ status_of ending.ended }
     ensures after { IfErr result (λ halt. is_after_image halt ≡ true) }
 {
-    match ended {
+    match ending.ended {
         Ok(()) => Ok(()),
-        Err(fault) => Err(halt_of(fault, position)),
+        Err(fault) => Err(halt_of(fault, ending.position)),
     }
 }
 

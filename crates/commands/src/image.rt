@@ -4,6 +4,7 @@ ghost use Rattle.std.specs.Prelude.{◌≡◌, List, ℕ, Some, IfOk, string_byt
 ghost use Rattle.commands.specs.declared.image.Refused.TheVariants as refused;
 ghost use Rattle.machine_spec.specs.Image.{Program, program_of};
 ghost use Rattle.annotate.specs.Loads.{FaultIs};
+ghost use Rattle.commands.specs.Files.{KeepsAll};
 ghost use Rattle.commands.specs.Images.{first_bytes, accepted_line, IsRefusal, ChecksAs, RanOut};
 
 use crate::files::Files;
@@ -37,7 +38,7 @@ fn read_first<R: Read + Drop>(alloc: Global, reader: R) -> Result<Vec<u8>, Unrea
 /// The image in a named file: its first bytes, as many as show whether it is too large.
 pub fn read_image<F: Files>(alloc: Global, files: &mut F, name: &str) -> Result<Vec<u8>, Unread>
     ensures read { (bytes : List ℕ) → F.bytes files.old name.now ≡ Some bytes → IfOk result (λ image. image.items ≡ first_bytes bytes) }
-    ensures kept { (other : List ℕ) → F.bytes files.new other ≡ F.bytes files.old other }
+    ensures kept { KeepsAll (F.bytes files.old) (F.bytes files.new) }
 {
     match files.open(name) {
         Ok(reader) => read_first(alloc, reader),

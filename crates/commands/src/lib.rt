@@ -1,5 +1,5 @@
-//! What a call of the program does: `command` does what its words ask for, with the files, standard
-//! input, output and error that it is given. `run` does the commands of a script, `check` verifies
+//! What a call of the program does: `command` does what its words ask for, with what the `Host` gives
+//! it: files, standard input, output and error. `run` does the commands of a script, `check` verifies
 //! a program, `explain` prints what the verifier knows of one, `asm` makes the image of a program's
 //! text, `dis` prints that text, `recheck` verifies the programs of a list anew, `transform` runs a
 //! program on record batches, `batches` and `records` list those of a file, and `commands` lists the
@@ -16,6 +16,7 @@ mod distinct;
 mod explaining;
 mod files;
 mod halts;
+mod host;
 mod image;
 mod listing;
 mod output_files;
@@ -33,6 +34,7 @@ mod usage;
 
 pub use crate::call::command;
 pub use crate::files::Files;
+pub use crate::host::Host;
 pub use crate::listing::list;
 pub use crate::rechecking::recheck;
 pub use crate::session::Session;

@@ -1,22 +1,25 @@
 //! The batches or the records of a file, listed.
 
-ghost use Rattle.std.specs.Prelude.{◌≡◌, ◌⊎◌, ℕ, List};
+ghost use Rattle.std.specs.Prelude.{◌≡◌, ◌⊎◌};
 ghost use Rattle.std.specs.Io.KnownBytes.{Keeps};
 ghost use Rattle.commands.specs.declared.status.Status.TheVariants.{Failed};
+ghost use Rattle.commands.specs.Files.{KeepsAll};
+ghost use Rattle.commands.specs.Hosts.{KeepsInputs};
 ghost use Rattle.commands.specs.Listings.{ListsAs, source_of, status_of, status_of_listed};
 
 use crate::files::Files;
+use crate::host::Host;
 use crate::reading::cause_of;
 use crate::status::Status;
 use crate::telling::{file_text, tell_memory, tell_text, tell_unread};
-use batch_text::{ListFault, Listing, Refusal, cause_text, list_all};
+use batch_text::{ListFault, Listing, NoBatch, cause_text, list_all};
 use std::alloc::{AllocError, Global};
 use std::io::{BufReader, Read, Write};
 use wire_spec::MAX_PIECE;
 
 /// Which bytes begin with no batch, and why, in a line.
-fn refusal_text(alloc: Global, refusal: &Refusal) -> Result<String, AllocError> {
-    let Refusal {
+fn refusal_text(alloc: Global, refusal: &NoBatch) -> Result<String, AllocError> {
+    let NoBatch {
         batches,
         position,
         fault,
@@ -108,41 +111,50 @@ fn list_reader<R: Read + Drop, O: Write, E: Write>(
 }
 
 /// Lists the batches of a named file, and answers the status.
-fn list_file<F: Files, O: Write, E: Write>(
-    alloc: Global,
+fn list_file<F: Files, I, O: Write, E: Write>(
+    host: &mut Host<F, I, O, E>,
     listing: Listing,
-    files: &mut F,
-    stdout: &mut O,
-    stderr: &mut E,
     name: &str,
 ) -> Status
-    ensures listed { ListsAs listing (F.bytes files.old name.now) result (O.contents stdout.old) (O.contents stdout.new) }
-    ensures kept { (other : List ℕ) → F.bytes files.new other ≡ F.bytes files.old other }
+    ensures listed { ListsAs listing (F.bytes host.old.files name.now) result (O.contents host.old.stdout) (O.contents host.new.stdout) }
+    ensures kept { KeepsInputs F.bytes host.old host.new }
 {
-    match files.open(name) {
-        Ok(reader) => list_reader(alloc, listing, reader, stdout, stderr, name),
-        Err(error) => tell_unread(alloc, stderr, name, cause_of(&error)),
-    }
+    let reader = match host.files.open(name) {
+        Ok(reader) => reader,
+        Err(error) => {
+            return tell_unread(host.alloc, &mut host.stderr, name, cause_of(&error));
+        }
+    };
+    list_reader(
+        host.alloc,
+        listing,
+        reader,
+        &mut host.stdout,
+        &mut host.stderr,
+        name,
+    )
 }
 
 /// Lists the batches, or the records, of a file; the name `stdin` is standard input. Answers the status:
 /// `Done`, all are listed; `Refused`, the bytes that follow begin with no batch; `Failed`, a file, standard
 /// output or memory failed. No file changes.
 pub fn list<F: Files, I: Read, O: Write, E: Write>(
-    alloc: Global,
+    host: &mut Host<F, I, O, E>,
     listing: Listing,
-    files: &mut F,
-    stdin: &mut I,
-    stdout: &mut O,
-    stderr: &mut E,
     name: &str,
 ) -> Status
-    ensures listed { ListsAs listing (source_of name.now (I.remaining stdin.old) (F.bytes files.old name.now)) result (O.contents stdout.old) (O.contents stdout.new) }
-    ensures kept { (other : List ℕ) → F.bytes files.new other ≡ F.bytes files.old other }
+    ensures listed { ListsAs listing (source_of name.now (I.remaining host.old.stdin) (F.bytes host.old.files name.now)) result (O.contents host.old.stdout) (O.contents host.new.stdout) }
+    ensures kept { KeepsAll (F.bytes host.old.files) (F.bytes host.new.files) }
 {
-    if name == "stdin" {
-        list_reader(alloc, listing, stdin, stdout, stderr, name)
-    } else {
-        list_file(alloc, listing, files, stdout, stderr, name)
+    if name != "stdin" {
+        return list_file(host, listing, name);
     }
+    list_reader(
+        host.alloc,
+        listing,
+        &mut host.stdin,
+        &mut host.stdout,
+        &mut host.stderr,
+        name,
+    )
 }

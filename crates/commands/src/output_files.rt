@@ -22,6 +22,7 @@ pub(crate) fn name_at(words: &[String], place: usize) -> &str
 
 /// Makes the file of an output partition empty, to be written. All files but those of output partitions
 /// stay.
+#[tactic(auto, using(crate::proofs::FileLaws::kept_but, crate::proofs::FileLaws::many_names))]
 fn create_one<F: Files>(files: &mut F, words: &[String], output: usize) -> Result<F::Writer, Halt>
     requires { output + 2 < length words.now }
     ensures fresh { F.tells ≡ true → IfOk result (λ writer. F.Writer.contents writer ≡ Some []) }
@@ -37,6 +38,7 @@ fn create_one<F: Files>(files: &mut F, words: &[String], output: usize) -> Resul
 }
 
 /// An empty output partition for each word from the third on, whose batches a file of that name will have.
+#[tactic(auto, using(crate::proofs::Kept::kept, crate::proofs::FileLaws::one_fresh))]
 pub(crate) fn create_all<F: Files>(
     alloc: Global,
     files: &mut F,
@@ -61,14 +63,15 @@ pub(crate) fn create_all<F: Files>(
 }
 
 /// Ends the file of an output partition, if a word is its name.
+#[tactic(auto, using(crate::proofs::FileLaws::many_names))]
 fn close_one<F: Files>(
     files: &mut F,
     words: &[String],
     output: usize,
     outlet: Outlet<F::Writer>,
 ) -> Result<(), Halt>
-    ensures held { OnOk result (output + 2 < length words.now → HasWritten outlet (F.bytes files.new (word_at (names_of words.now) (output + 2)))) }
-    ensures kept { (other : List ℕ) → (output + 2 < length words.now → other ≢ word_at (names_of words.now) (output + 2)) → F.bytes files.new other ≡ F.bytes files.old other }
+    ensures held { OnOk result (output + 2 < length (names_of words.now) → HasWritten outlet (F.bytes files.new (word_at (names_of words.now) (output + 2)))) }
+    ensures kept { (other : List ℕ) → (output + 2 < length (names_of words.now) → other ≢ word_at (names_of words.now) (output + 2)) → F.bytes files.new other ≡ F.bytes files.old other }
     ensures err { IfErr result (λ halt. status_of_halt halt ≡ Failed) }
     ensures after { IfErr result (λ halt. is_after_image halt ≡ true) }
 {

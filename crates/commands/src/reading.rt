@@ -3,6 +3,7 @@
 ghost use Rattle.std.specs.Prelude.{◌≡◌, ◌≢◌, ℕ, List, Some, IfOk};
 ghost use Rattle.std.specs.IoError.{error_kind};
 ghost use Rattle.std.specs.declared.io.ErrorKind.TheVariants.{OutOfMemory};
+ghost use Rattle.commands.specs.Files.{KeepsAll};
 ghost use Rattle.commands.specs.declared.reading.Unread.TheVariants as unread;
 
 use crate::files::Files;
@@ -44,7 +45,7 @@ pub fn cause_of(error: &io::Error) -> Unread
 /// All bytes of a named file.
 pub fn read_file<F: Files>(alloc: Global, files: &mut F, name: &str) -> Result<Vec<u8>, Unread>
     ensures read { (bytes : List ℕ) → F.bytes files.old name.now ≡ Some bytes → IfOk result (λ read. read.items ≡ bytes) }
-    ensures kept { (other : List ℕ) → F.bytes files.new other ≡ F.bytes files.old other }
+    ensures kept { KeepsAll (F.bytes files.old) (F.bytes files.new) }
 {
     match files.open(name) {
         Ok(mut reader) => read_whole(alloc, &mut reader),

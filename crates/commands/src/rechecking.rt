@@ -1,17 +1,19 @@
 //! Programs of a list, verified anew.
 
-ghost use Rattle.std.specs.Prelude.{◌≡◌, ◌==◌, ◌<◌, ◌≤◌, ◌⊎◌, ℕ, List, ◌∷◌, ◌++◌, Some, length, IfOk, IfSome, OnOk, IfErr};
+ghost use Rattle.std.specs.Prelude.{◌≡◌, ◌==◌, ◌<◌, ◌≤◌, ◌⊎◌, ◌∷◌, ◌++◌, length, IfOk, IfSome, OnOk, IfErr};
 ghost use Rattle.std.specs.List.{slice_split};
 ghost use Rattle.std.specs.Io.KnownBytes.{Appends};
 ghost use Rattle.machine_spec.specs.Image.{program_of};
 ghost use Rattle.script.specs.Words.{texts, word_at};
 ghost use Rattle.commands.specs.declared.stop.Stop.TheVariants as stop;
+ghost use Rattle.commands.specs.Hosts.{KeepsInputs, PrintsOfFile};
 ghost use Rattle.commands.specs.Rechecks as definitions;
 ghost use Rattle.commands.specs.Rechecks.{ImageTells, LineTells, Rechecks, RechecksAs};
 ghost use Rattle.commands.specs.Stops.{IsUnwritten};
 
 use crate::asm::read_text;
 use crate::files::Files;
+use crate::host::Host;
 use crate::image::{Refused, check, read_image};
 use crate::reading::Unread;
 use crate::run::Ended;
@@ -134,42 +136,46 @@ fn stop_of_file(alloc: Global, file: &str, cause: Unread) -> Stop
 
 /// Verifies the program that a line names, and says that it is accepted or why it is refused; answers
 /// whether it is refused.
-fn recheck_line<F: Files, O: Write, E: Write>(
-    alloc: Global,
-    files: &mut F,
-    stdout: &mut O,
-    stderr: &mut E,
+fn recheck_line<F: Files, I, O: Write, E: Write>(
+    host: &mut Host<F, I, O, E>,
     line: &str,
 ) -> Result<bool, Stop>
-    ensures kept { (other : List ℕ) → F.bytes files.new other ≡ F.bytes files.old other }
-    ensures told { LineTells (F.bytes files.old) line.now (O.contents stdout.old) (O.contents stdout.new) result }
+    ensures kept { KeepsInputs F.bytes host.old host.new }
+    ensures told { LineTells (F.bytes host.old.files) line.now (O.contents host.old.stdout) (O.contents host.new.stdout) result }
 {
+    let alloc = host.alloc;
     let words = pieces(alloc, line, ' ')?;
     let Some(table) = table_of(&words) else {
         return Err(Stop::Line(ScriptFault::Syntax));
     };
     let name = piece(&words, 0);
-    match read_image(alloc, files, name) {
-        Ok(image) => recheck_image(alloc, stdout, stderr, name, image.as_slice(), table),
-        Err(cause) => Err(stop_of_file(alloc, name, cause)),
-    }
+    let image = match read_image(alloc, &mut host.files, name) {
+        Ok(image) => image,
+        Err(cause) => return Err(stop_of_file(alloc, name, cause)),
+    };
+    let image = image.as_slice();
+    recheck_image(
+        alloc,
+        &mut host.stdout,
+        &mut host.stderr,
+        name,
+        image,
+        table,
+    )
 }
 
 /// Verifies the programs of a list's lines in order, up to one that names none; answers whether one is
 /// refused.
-fn recheck_lines<F: Files, O: Write, E: Write>(
-    alloc: Global,
-    files: &mut F,
-    stdout: &mut O,
-    stderr: &mut E,
+fn recheck_lines<F: Files, I, O: Write, E: Write>(
+    host: &mut Host<F, I, O, E>,
     lines: &[&str],
 ) -> Result<bool, Ended>
-    ensures kept { (other : List ℕ) → F.bytes files.new other ≡ F.bytes files.old other }
-    ensures told { Rechecks (F.bytes files.old) (texts lines.now) (O.contents stdout.old) (O.contents stdout.new) result }
+    ensures kept { KeepsInputs F.bytes host.old host.new }
+    ensures told { Rechecks (F.bytes host.old.files) (texts lines.now) (O.contents host.old.stdout) (O.contents host.new.stdout) result }
 {
     let mut refused = false;
     for index in 0..lines.len() {
-        match recheck_line(alloc, files, stdout, stderr, piece(lines, index)) {
+        match recheck_line(host, piece(lines, index)) {
             Ok(is_refused) => refused |= is_refused,
             Err(stop) => {
                 let line = (index as u64).saturating_add(1);
@@ -181,18 +187,15 @@ fn recheck_lines<F: Files, O: Write, E: Write>(
 }
 
 /// The same of a list's text.
-fn recheck_text<F: Files, O: Write, E: Write>(
-    alloc: Global,
-    files: &mut F,
-    stdout: &mut O,
-    stderr: &mut E,
+fn recheck_text<F: Files, I, O: Write, E: Write>(
+    host: &mut Host<F, I, O, E>,
     list: &str,
 ) -> Result<bool, Ended>
-    ensures kept { (other : List ℕ) → F.bytes files.new other ≡ F.bytes files.old other }
-    ensures told { Rechecks (F.bytes files.old) (definitions.lines_of list.now) (O.contents stdout.old) (O.contents stdout.new) result }
+    ensures kept { KeepsInputs F.bytes host.old host.new }
+    ensures told { Rechecks (F.bytes host.old.files) (definitions.lines_of list.now) (O.contents host.old.stdout) (O.contents host.new.stdout) result }
 {
-    match pieces(alloc, list, '\n') {
-        Ok(pieces) => recheck_lines(alloc, files, stdout, stderr, without_end(&pieces)),
+    match pieces(host.alloc, list, '\n') {
+        Ok(pieces) => recheck_lines(host, without_end(&pieces)),
         Err(_) => Err(Ended {
             line: 0,
             stop: Stop::Memory,
@@ -204,24 +207,16 @@ fn recheck_text<F: Files, O: Write, E: Write>(
 /// is refused, and goes on. A line that names no program ends it, and a file that can't be read does.
 /// Answers the status: `Done`, all are accepted; `Refused`, one is refused or a line names none; `Failed`, a
 /// file, standard output or memory failed. No file changes.
-pub fn recheck<F: Files, O: Write, E: Write>(
-    alloc: Global,
-    files: &mut F,
-    stdout: &mut O,
-    stderr: &mut E,
-    name: &str,
-) -> Status
-    ensures kept { (other : List ℕ) → F.bytes files.new other ≡ F.bytes files.old other }
-    ensures told { (list : List ℕ) → F.bytes files.old name.now ≡ Some list
-        → RechecksAs (F.bytes files.old) list result (O.contents stdout.old) (O.contents stdout.new) }
+pub fn recheck<F: Files, I, O: Write, E: Write>(host: &mut Host<F, I, O, E>, name: &str) -> Status
+    ensures { PrintsOfFile F.bytes O.contents host.old host.new name.now (λ list. RechecksAs (F.bytes host.old.files) list result) }
 {
-    let list = match read_text(alloc, files, name) {
+    let list = match read_text(host.alloc, &mut host.files, name) {
         Ok(list) => list,
-        Err(cause) => return tell_unread(alloc, stderr, name, cause),
+        Err(cause) => return tell_unread(host.alloc, &mut host.stderr, name, cause),
     };
-    match recheck_text(alloc, files, stdout, stderr, list.as_str()) {
+    match recheck_text(host, list.as_str()) {
         Ok(false) => Status::Done,
         Ok(true) => Status::Refused,
-        Err(ended) => tell(alloc, stderr, &ended),
+        Err(ended) => tell(host.alloc, &mut host.stderr, &ended),
     }
 }

@@ -12,8 +12,8 @@ ghost use Rattle.commands.specs.Puts.{put_batch};
 ghost use Rattle.commands.specs.Sessions.{IsImageIn, IsMark, IsMarkFault, Learns, Loads, LoadDoes, DeployDoes, PutDoes, CloseDoes, FetchDoes, GoDoes, Does, LineDoes, ShowsWhy, is_loaded, known_of, setting, state, target_of};
 ghost use Rattle.commands.specs.Stops.{EndsFor};
 
-use crate::appending::{add, append_source, input_of, make_room, print_appended, shown};
-use crate::batches::batch_of;
+use crate::appending::{Target, add, append_source, input_of, make_room, print_appended, shown};
+use crate::batches::{Put, batch_of};
 use crate::files::Files;
 use crate::image::read_image;
 use crate::printing::{print, print_line};
@@ -26,7 +26,7 @@ use machine_spec::Table;
 use part_log::{Names, Receipt, Trail};
 use report::gather;
 use script::{
-    Command, ScriptFault, Source, append_text, close_text, deploy_text, fetch_text, first_fault,
+    Command, FileWord, ScriptFault, append_text, close_text, deploy_text, fetch_text, first_fault,
     load_text, parse,
 };
 use std::alloc::{AllocError, Global};
@@ -138,13 +138,13 @@ impl<'a, Id: Names + Send + Sync, R: Threads + Wait + Sync> Session<'a, Id, R> {
 
     /// The image that a command names.
     #[tactic(auto, using(crate::proofs::StopLaws::unread_is))]
-    fn image<F: Files>(&self, files: &mut F, source: Source) -> Result<Bytes, Stop>
+    fn image<F: Files>(&self, files: &mut F, source: FileWord) -> Result<Bytes, Stop>
         ensures read { IfOk result (IsImageIn (F.bytes files.old) source) }
         ensures failed { IfErr result (λ reason. (reason ≡ stop.Memory) ⊎ (reason ≡ unread_of source)) }
     {
         match source {
-            Source::Line(image) => Ok(image),
-            Source::File(name) => match read_image(self.alloc, files, name.text.as_str()) {
+            FileWord::Line(image) => Ok(image),
+            FileWord::File(name) => match read_image(self.alloc, files, name.text.as_str()) {
                 Err(cause) => Err(stop_of_unread(name, cause)),
                 Ok(bytes) => Ok(shared(bytes)?),
             },
@@ -184,7 +184,7 @@ impl<'a, Id: Names + Send + Sync, R: Threads + Wait + Sync> Session<'a, Id, R> {
         files: &mut F,
         stdout: &mut O,
         name: RawName,
-        source: Source,
+        source: FileWord,
         table: Table,
     ) -> Result<(), Stop>
         ensures { LoadDoes (F.bytes files.old) name source table self.old.script self.new.script (O.contents stdout.old) (O.contents stdout.new) result }
@@ -254,18 +254,16 @@ impl<'a, Id: Names + Send + Sync, R: Threads + Wait + Sync> Session<'a, Id, R> {
         &self,
         stdout: &mut O,
         input: u64,
-        timestamp: u64,
-        key: Option<Bytes>,
-        value: Option<Bytes>,
+        put: Put,
         receipts: &mut Vec<Receipt<Id>>,
     ) -> Result<(), Stop>
-        requires timestamp { timestamp < TIMESTAMP_END }
-        requires key { text_size key ≤ MAX_KEY }
-        requires value { text_size value ≤ MAX_VALUE }
-        ensures { PutDoes self.now.script.inputs input (put_batch timestamp key value) receipts.old.items receipts.new.items (O.contents stdout.old) (O.contents stdout.new) result }
+        requires timestamp { put.timestamp < TIMESTAMP_END }
+        requires key { text_size put.key ≤ MAX_KEY }
+        requires value { text_size put.value ≤ MAX_VALUE }
+        ensures { PutDoes self.now.script.inputs input (put_batch put.timestamp put.key put.value) receipts.old.items receipts.new.items (O.contents stdout.old) (O.contents stdout.new) result }
     {
         make_room(receipts)?;
-        let batch = batch_of(self.alloc, timestamp, key, value)?;
+        let batch = batch_of(self.alloc, put)?;
         let receipt = self
             .broker
             .append(self.rt, self.alloc, input as usize, batch)?;
@@ -297,21 +295,19 @@ impl<'a, Id: Names + Send + Sync, R: Threads + Wait + Sync> Session<'a, Id, R> {
         files: &mut F,
         stdout: &mut O,
         input: u64,
-        source: Source,
+        source: FileWord,
         receipts: &mut Vec<Receipt<Id>>,
     ) -> Result<(), Stop>
         ensures { AppendDoes self.now.script.inputs (F.bytes files.old) input source receipts.old.items receipts.new.items (O.contents stdout.old) (O.contents stdout.new) result }
     {
         let before = receipts.len();
-        let appended = append_source(
-            self.rt,
-            self.alloc,
-            &self.broker,
-            files,
+        let target = Target {
+            rt: self.rt,
+            alloc: self.alloc,
+            broker: &self.broker,
             input,
-            source,
-            receipts,
-        );
+        };
+        let appended = append_source(&target, files, source, receipts);
         print_appended(self.alloc, stdout, input, &receipts[before..])?;
         appended
     }
@@ -388,7 +384,12 @@ impl<'a, Id: Names + Send + Sync, R: Threads + Wait + Sync> Session<'a, Id, R> {
             }
             Command::Deploy(input, name) => self.deploy(stdout, input, name, receipts),
             Command::Put(input, timestamp, key, value) => {
-                self.put(stdout, input, timestamp, key, value, receipts)
+                let put = Put {
+                    timestamp,
+                    key,
+                    value,
+                };
+                self.put(stdout, input, put, receipts)
             }
             Command::Append(input, source) => self.append(files, stdout, input, source, receipts),
             Command::Close(input) => self.close(stdout, input, receipts),

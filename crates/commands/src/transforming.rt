@@ -9,7 +9,8 @@ ghost use Rattle.transform.specs.Streams.{TransformsAll};
 ghost use Rattle.script.specs.Words.{word_at};
 ghost use Rattle.command_line.specs.Calls.{names_of, AreDistinct};
 ghost use Rattle.commands.specs.declared.status.Status.TheVariants.{Failed};
-ghost use Rattle.commands.specs.FileTransforms.{KeepsOthers, KeepsAll, KeepsIfRefused, is_after_image};
+ghost use Rattle.commands.specs.FileTransforms.{KeepsOthers, KeepsIfRefused, is_after_image};
+ghost use Rattle.commands.specs.Files.{KeepsAll};
 ghost use Rattle.commands.specs.FileTransforms.{StreamsAs, CallTransforms, IsLoaded, IsUnloaded, HaveWritten};
 ghost use Rattle.commands.specs.FileTransforms.{status_of, status_of_ended};
 ghost use Rattle.commands.specs.Images.{first_bytes};
@@ -17,14 +18,15 @@ ghost use Rattle.commands.specs.Listings.{source_of};
 
 use crate::counting::{counts_text, say_counts};
 use crate::files::Files;
-use crate::halts::{Halt, INPUT, halted, tell_halt, unused};
+use crate::halts::{Ending, Halt, INPUT, halted, tell_halt, unused};
+use crate::host::Host;
 use crate::image::{Refused, read_image, refusal_of};
 use crate::output_files::{close_all, create_all, name_at};
 use crate::progress::Progress;
 use crate::reading::Unread;
 use crate::status::Status;
 use crate::usage::tell_usage;
-use batch_reader::{BatchReader, Position};
+use batch_reader::BatchReader;
 use bytes::Bytes;
 use log_item::Program;
 use log_spec::MAX_PARTITIONS;
@@ -66,7 +68,7 @@ fn load_file<F: Files>(
     table: Table,
 ) -> Result<Program, Halt>
     ensures loaded { (image : List ℕ) → F.bytes files.old name.now ≡ Some image → IsLoaded (images.program_of (first_bytes image) table) result }
-    ensures kept { (other : List ℕ) → F.bytes files.new other ≡ F.bytes files.old other }
+    ensures kept { KeepsAll (F.bytes files.old) (F.bytes files.new) }
 {
     match read_image(alloc, files, name) {
         Ok(image) => program_of(alloc, image, table),
@@ -91,30 +93,29 @@ fn run<F: Files, R: Read, E: Write>(
     transform_watched(program, batches, stream, &mut progress)
 }
 
-/// Ends the files of a stream that ended so after these batches, and says how many records and rows there
-/// were.
+/// Ends the files of a stream that ended so, and says how many records and rows there were.
 fn finish<F: Files, E: Write>(
     alloc: Global,
     files: &mut F,
     stderr: &mut E,
     words: &[String],
     stream: Transform<F::Writer>,
-    ended: Result<(), StreamFault>,
-    position: Position,
+    ending: Ending,
 ) -> Result<(), Halt>
-    ensures held { (status_of_ended result ≡ Failed) ⊎ ((status_of_ended result ≡ status_of ended)
+    ensures held { (status_of_ended result ≡ Failed) ⊎ ((status_of_ended result ≡ status_of ending.ended)
         × (AreDistinct (names_of words.now) → HaveWritten (names_of words.now) stream.outputs (F.bytes files.new))) }
     ensures kept { KeepsOthers (names_of words.now) (F.bytes files.old) (F.bytes files.new) }
     ensures after { IfErr result (λ halt. is_after_image halt ≡ true) }
 {
-    let counts = counts_text(alloc, &stream, position.batches);
+    let counts = counts_text(alloc, &stream, ending.position.batches);
     close_all(files, words, stream.into_outlets())?;
     say_counts(stderr, counts);
-    halted(ended, position)
+    halted(ending)
 }
 
 /// Runs a program on a reader's batches into files, and says how many there were. The words are those of
 /// the call.
+#[tactic(auto, using(crate::proofs::Kept::kept))]
 fn write_batches<F: Files, R: Read, E: Write>(
     alloc: Global,
     files: &mut F,
@@ -135,14 +136,14 @@ fn write_batches<F: Files, R: Read, E: Write>(
     let outlets = create_all(alloc, files, words)?;
     let mut stream = Transform::new(alloc, 0, 0, outlets);
     let ended = run(alloc, files, stderr, program, batches, &mut stream);
+    let position = batches.position();
     finish(
         alloc,
         files,
         stderr,
         words,
         stream,
-        ended,
-        batches.position(),
+        Ending { ended, position },
     )
 }
 
@@ -169,76 +170,86 @@ fn write_files<F: Files, R: Read + Drop, E: Write>(
 }
 
 /// The same of standard input, of which the files take note before one is created.
-fn write_stdin<F: Files, I: Read, E: Write>(
-    alloc: Global,
-    files: &mut F,
-    stdin: &mut I,
-    stderr: &mut E,
+fn write_stdin<F: Files, I: Read, O, E: Write>(
+    host: &mut Host<F, I, O, E>,
     program: &Program,
     words: &[String],
 ) -> Result<(), Halt>
     requires some { 3 ≤ length words.now }
     requires few { length words.now ≤ MAX_PARTITIONS + 2 }
     ensures written { F.tells ≡ true → AreDistinct (names_of words.now) → (bytes : List ℕ)
-        → I.remaining stdin.old ≡ Some bytes
+        → I.remaining host.old.stdin ≡ Some bytes
         → StreamsAs program.now bytes (length (names_of words.now) - 2) (status_of_ended result)
-        (λ output. F.bytes files.new (word_at (names_of words.now) (output + 2))) }
-    ensures kept { KeepsOthers (names_of words.now) (F.bytes files.old) (F.bytes files.new) }
+        (λ output. F.bytes host.new.files (word_at (names_of words.now) (output + 2))) }
+    ensures kept { KeepsOthers (names_of words.now) (F.bytes host.old.files) (F.bytes host.new.files) }
     ensures after { IfErr result (λ halt. is_after_image halt ≡ true) }
+    ensures stdout { host.new.stdout ≡ host.old.stdout }
 {
-    match files.take_stdin() {
-        Ok(()) => write_files(alloc, files, stdin, stderr, program, words),
-        Err(error) => Err(unused(INPUT, &error)),
+    if let Err(error) = host.files.take_stdin() {
+        return Err(unused(INPUT, &error));
     }
+    let Host {
+        alloc,
+        files,
+        stdin,
+        stderr,
+        ..
+    } = host;
+    write_files(*alloc, files, stdin, stderr, program, words)
 }
 
 /// The same of the file of the second word; the name `stdin` is standard input.
-fn write_source<F: Files, I: Read, E: Write>(
-    alloc: Global,
-    files: &mut F,
-    stdin: &mut I,
-    stderr: &mut E,
+fn write_source<F: Files, I: Read, O, E: Write>(
+    host: &mut Host<F, I, O, E>,
     program: &Program,
     words: &[String],
 ) -> Result<(), Halt>
     requires some { 3 ≤ length words.now }
     requires few { length words.now ≤ MAX_PARTITIONS + 2 }
     ensures written { F.tells ≡ true → AreDistinct (names_of words.now) → (bytes : List ℕ)
-        → source_of (word_at (names_of words.now) 1) (I.remaining stdin.old) (F.bytes files.old (word_at (names_of words.now) 1)) ≡ Some bytes
-        → StreamsAs program.now bytes (length (names_of words.now) - 2) (status_of_ended result) (λ output. F.bytes files.new (word_at (names_of words.now) (output + 2))) }
-    ensures kept { KeepsOthers (names_of words.now) (F.bytes files.old) (F.bytes files.new) }
+        → source_of (word_at (names_of words.now) 1) (I.remaining host.old.stdin) (F.bytes host.old.files (word_at (names_of words.now) 1)) ≡ Some bytes
+        → StreamsAs program.now bytes (length (names_of words.now) - 2) (status_of_ended result) (λ output. F.bytes host.new.files (word_at (names_of words.now) (output + 2))) }
+    ensures kept { KeepsOthers (names_of words.now) (F.bytes host.old.files) (F.bytes host.new.files) }
     ensures after { IfErr result (λ halt. is_after_image halt ≡ true) }
+    ensures stdout { host.new.stdout ≡ host.old.stdout }
 {
     let input = name_at(words, INPUT);
     if input == "stdin" {
-        return write_stdin(alloc, files, stdin, stderr, program, words);
+        return write_stdin(host, program, words);
     }
-    match files.open(input) {
-        Ok(reader) => write_files(alloc, files, reader, stderr, program, words),
+    match host.files.open(input) {
+        Ok(reader) => {
+            let Host {
+                alloc,
+                files,
+                stderr,
+                ..
+            } = host;
+            write_files(*alloc, files, reader, stderr, program, words)
+        }
         Err(error) => Err(unused(INPUT, &error)),
     }
 }
 
 /// The same by the image of the first word and a helper table. Where the image is refused or can't be read, all files
 /// stay.
-fn transform_files<F: Files, I: Read, E: Write>(
-    alloc: Global,
-    files: &mut F,
-    stdin: &mut I,
-    stderr: &mut E,
+#[tactic(auto, using(crate::proofs::Kept::kept, crate::proofs::FileLaws::not_refused))]
+fn transform_files<F: Files, I: Read, O, E: Write>(
+    host: &mut Host<F, I, O, E>,
     table: Table,
     words: &[String],
 ) -> Result<(), Halt>
     requires some { 3 ≤ length words.now }
     requires few { length words.now ≤ MAX_PARTITIONS + 2 }
-    ensures transformed { F.tells ≡ true → CallTransforms table (names_of words.now) (I.remaining stdin.old) (F.bytes files.old) (F.bytes files.new) (status_of_ended result) }
-    ensures kept { KeepsOthers (names_of words.now) (F.bytes files.old) (F.bytes files.new) }
-    ensures refused { KeepsIfRefused table (names_of words.now) (F.bytes files.old) (F.bytes files.new) }
+    ensures transformed { F.tells ≡ true → CallTransforms table (names_of words.now) (I.remaining host.old.stdin) (F.bytes host.old.files) (F.bytes host.new.files) (status_of_ended result) }
+    ensures kept { KeepsOthers (names_of words.now) (F.bytes host.old.files) (F.bytes host.new.files) }
+    ensures refused { KeepsIfRefused table (names_of words.now) (F.bytes host.old.files) (F.bytes host.new.files) }
     ensures unread { IfErr result (λ halt. (is_after_image halt ≡ true)
-        ⊎ KeepsAll (F.bytes files.old) (F.bytes files.new)) }
+        ⊎ KeepsAll (F.bytes host.old.files) (F.bytes host.new.files)) }
+    ensures stdout { host.new.stdout ≡ host.old.stdout }
 {
-    match load_file(alloc, files, name_at(words, 0), table) {
-        Ok(program) => write_source(alloc, files, stdin, stderr, &program, words),
+    match load_file(host.alloc, &mut host.files, name_at(words, 0), table) {
+        Ok(program) => write_source(host, &program, words),
         Err(halt) => Err(halt),
     }
 }
@@ -248,24 +259,22 @@ fn transform_files<F: Files, I: Read, E: Write>(
 /// each output partition. The input partition is 0, and its offsets begin at 0. Where it ends since offsets are used
 /// up, one batch more might reach the offset 2^62, or an output partition would have more than 2^63 rows. All files but
 /// those of the output partitions stay, and these too where the image is refused.
-pub fn transform<F: Files, I: Read, E: Write>(
-    alloc: Global,
-    files: &mut F,
-    stdin: &mut I,
-    stderr: &mut E,
+pub fn transform<F: Files, I: Read, O, E: Write>(
+    host: &mut Host<F, I, O, E>,
     table: Table,
     words: &[String],
 ) -> Status
     ensures transformed { F.tells ≡ true → 3 ≤ length words.now → length words.now ≤ MAX_PARTITIONS + 2
-        → CallTransforms table (names_of words.now) (I.remaining stdin.old) (F.bytes files.old) (F.bytes files.new) result }
-    ensures kept { KeepsOthers (names_of words.now) (F.bytes files.old) (F.bytes files.new) }
-    ensures refused { KeepsIfRefused table (names_of words.now) (F.bytes files.old) (F.bytes files.new) }
+        → CallTransforms table (names_of words.now) (I.remaining host.old.stdin) (F.bytes host.old.files) (F.bytes host.new.files) result }
+    ensures kept { KeepsOthers (names_of words.now) (F.bytes host.old.files) (F.bytes host.new.files) }
+    ensures refused { KeepsIfRefused table (names_of words.now) (F.bytes host.old.files) (F.bytes host.new.files) }
+    ensures stdout { host.new.stdout ≡ host.old.stdout }
 {
     if words.len() < 3 || words.len() > MAX_PARTITIONS + 2 {
-        return tell_usage(stderr).status;
+        return tell_usage(&mut host.stderr).status;
     }
-    match transform_files(alloc, files, stdin, stderr, table, words) {
+    match transform_files(host, table, words) {
         Ok(()) => Status::Done,
-        Err(halt) => tell_halt(alloc, stderr, words, halt),
+        Err(halt) => tell_halt(host.alloc, &mut host.stderr, words, halt),
     }
 }

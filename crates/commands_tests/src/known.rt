@@ -6,39 +6,31 @@ ghost use Rattle.commands.specs.FileTransforms.{CallTransforms};
 ghost use Rattle.commands.specs.Rechecks.{RechecksAs};
 ghost use Rattle.commands_tests.specs.Shelves.{bytes_in, left_of, with_file};
 
-use crate::shelf::{BATCHES, FORWARD, Shelf, input_of, shelf_of};
+use crate::shelf::{BATCHES, FORWARD, Shelf, TestHost, host_of, input_of, shelf_of};
 use commands::{Files, Status, recheck, transform};
 use machine_spec::Table;
 use std::alloc::Global;
-use std::io::Cursor;
 use std::test::*;
 
 /// Puts a list on a shelf, and verifies the programs that it names anew; `None` where it can't be put.
-fn recheck_list(
-    alloc: Global,
-    files: &mut Shelf,
-    list: &[u8],
-    stdout: &mut Vec<u8>,
-    stderr: &mut Vec<u8>,
-) -> Option<Status>
-    ensures { IfSome result (λ status. RechecksAs (with_file (bytes_in files.old.files) (codes "list") list.now)
-        list.now status (Some stdout.old.items) (Some stdout.new.items)) }
+fn recheck_list(host: &mut TestHost, list: &[u8]) -> Option<Status>
+    ensures { IfSome result (λ status. RechecksAs (with_file (bytes_in host.old.files.files) (codes "list") list.now)
+        list.now status (Some host.old.stdout.items) (Some host.new.stdout.items)) }
 {
-    match files.write("list", list) {
-        Ok(()) => Some(recheck(alloc, files, stdout, stderr, "list")),
+    match host.files.write("list", list) {
+        Ok(()) => Some(recheck(host, "list")),
         Err(_) => None,
     }
 }
 
 /// Whether this is the status of a list, and this is printed of it.
 fn is_rechecked(alloc: Global, list: &[u8], status: Status, printed: &[u8]) -> bool {
-    let Some(mut files) = shelf_of(alloc, "forward.bin", &FORWARD) else {
+    let files = shelf_of(alloc, "forward.bin", &FORWARD);
+    let (Some(files), Some(stdin)) = (files, input_of(alloc, &[])) else {
         return false;
     };
-    let mut stdout = Vec::new(alloc);
-    let mut stderr = Vec::new(alloc);
-    let rechecked = recheck_list(alloc, &mut files, list, &mut stdout, &mut stderr);
-    rechecked == Some(status) && stdout.as_slice() == printed
+    let mut host = host_of(alloc, files, stdin);
+    recheck_list(&mut host, list) == Some(status) && host.stdout.as_slice() == printed
 }
 
 #[test]
@@ -49,17 +41,11 @@ fn a_list_on_a_shelf_is_rechecked(rt: HostRuntime) {
 
 /// Runs a program of the first helper table on batches. The words are the image, the batches and the file of the one
 /// output partition.
-fn transform_to(
-    alloc: Global,
-    files: &mut Shelf,
-    stdin: &mut Cursor<Vec<u8>>,
-    stderr: &mut Vec<u8>,
-    words: &[String; 3],
-) -> Status
-    ensures { CallTransforms Table.One (names_of words.now) (left_of stdin.old) (bytes_in files.old.files)
-        (bytes_in files.new.files) result }
+fn transform_to(host: &mut TestHost, words: &[String; 3]) -> Status
+    ensures { CallTransforms Table.One (names_of words.now) (left_of host.old.stdin) (bytes_in host.old.files.files)
+        (bytes_in host.new.files.files) result }
 {
-    transform(alloc, files, stdin, stderr, Table::One, words)
+    transform(host, Table::One, words)
 }
 
 /// How many bytes a file has; 0 where it is not there.
@@ -73,12 +59,12 @@ fn len_of(files: &Shelf, name: &str) -> usize {
 /// Whether the rows of all batches are in the file.
 fn is_transformed(alloc: Global, words: &[String; 3]) -> bool {
     let files = shelf_of(alloc, "forward.bin", &FORWARD);
-    let (Some(mut files), Some(mut stdin)) = (files, input_of(alloc, &BATCHES)) else {
+    let (Some(files), Some(stdin)) = (files, input_of(alloc, &BATCHES)) else {
         return false;
     };
-    let mut stderr = Vec::new(alloc);
-    let status = transform_to(alloc, &mut files, &mut stdin, &mut stderr, words);
-    status == Status::Done && len_of(&files, words[2].as_str()) == 202
+    let mut host = host_of(alloc, files, stdin);
+    let status = transform_to(&mut host, words);
+    status == Status::Done && len_of(&host.files, words[2].as_str()) == 202
 }
 
 /// The same with the names of the files.

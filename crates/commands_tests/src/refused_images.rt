@@ -1,10 +1,9 @@
 //! What the files of a transform have whose image is refused, or can't be read.
 
-use crate::shelf::{BATCHES, FORWARD, Shelf, input_of, shelf_of, words_of};
+use crate::shelf::{BATCHES, FORWARD, Shelf, TestHost, host_of, input_of, shelf_of, words_of};
 use crate::verdicts::all_hold;
 use commands::{Files, command};
 use std::alloc::Global;
-use std::io::Cursor;
 use std::sync::Wait;
 use std::test::*;
 use std::thread::Threads;
@@ -44,15 +43,12 @@ fn is_kept(files: &Shelf, name: &str) -> bool {
 /// Whether a transform ends with this status, and both files are kept, or both are not.
 fn ends_so<R: Threads + Wait + Sync>(
     rt: &R,
-    alloc: Global,
-    files: &mut Shelf,
-    stdin: &mut Cursor<Vec<u8>>,
+    host: &mut TestHost,
     words: &[String],
     want: (u8, bool),
 ) -> bool {
-    let mut stdout = Vec::new(alloc);
-    let mut stderr = Vec::new(alloc);
-    let status = command(rt, alloc, words, files, stdin, &mut stdout, &mut stderr);
+    let status = command(rt, host, words);
+    let files = &host.files;
     status.code() == want.0 && is_kept(files, "one") == want.1 && is_kept(files, "other") == want.1
 }
 
@@ -63,8 +59,8 @@ fn leaves<R: Threads + Wait + Sync>(rt: &R, alloc: Global, image: &str, want: (u
         full_shelf(alloc),
         input_of(alloc, &BATCHES),
     ) {
-        (Some(words), Some(mut files), Some(mut stdin)) => {
-            ends_so(rt, alloc, &mut files, &mut stdin, &words, want)
+        (Some(words), Some(files), Some(stdin)) => {
+            ends_so(rt, &mut host_of(alloc, files, stdin), &words, want)
         }
         _ => false,
     }

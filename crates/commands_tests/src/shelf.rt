@@ -4,7 +4,7 @@ ghost use Rattle.std.specs.Prelude.{◌≡◌, ◌≢◌, ℕ, List, true, Some,
 ghost use Rattle.std.specs.Bool.{OnTrue};
 ghost use Rattle.commands_tests.specs.Shelves.{bytes_in, left_of};
 
-use commands::Files;
+use commands::{Files, Host};
 use std::alloc::Global;
 use std::collections::BTreeMap;
 use std::io;
@@ -90,6 +90,20 @@ pub(crate) fn shelf_of(alloc: Global, name: &str, content: &[u8]) -> Option<Shel
     let mut shelf = empty_shelf(alloc);
     shelf.write(name, content).ok()?;
     Some(shelf)
+}
+
+/// What a test gives a call: memory, files on a shelf, and a standard input, output and error of bytes.
+pub(crate) type TestHost = Host<Shelf, Cursor<Vec<u8>>, Vec<u8>, Vec<u8>>;
+
+/// A shelf and bytes for a call, which has printed nothing yet.
+pub(crate) fn host_of(alloc: Global, files: Shelf, stdin: Cursor<Vec<u8>>) -> TestHost {
+    Host {
+        alloc,
+        files,
+        stdin,
+        stdout: Vec::new(alloc),
+        stderr: Vec::new(alloc),
+    }
 }
 
 /// The words of a call.

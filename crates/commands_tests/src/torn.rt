@@ -1,7 +1,7 @@
 //! Files whose readers give a byte at each call and fail at one of them, and writers that fail after a number of bytes.
 
 use crate::shelf::{BATCHES, FORWARD, input_of, words_of};
-use commands::{Files, command};
+use commands::{Files, Host, command};
 use std::alloc::Global;
 use std::io;
 use std::io::{Cursor, Read, Write};
@@ -117,25 +117,30 @@ type Called = (u8, Vec<u8>, Vec<u8>);
 /// A call with a standard output that takes so many bytes.
 fn bytes_of<R: Threads + Wait + Sync>(
     rt: &R,
-    files: &mut Torn,
+    files: Torn,
     words: &[String],
-    stdin: &mut Cursor<Vec<u8>>,
+    stdin: Cursor<Vec<u8>>,
     room: usize,
 ) -> Called {
     let alloc = files.alloc;
-    let mut stdout = Narrow {
-        taken: Vec::new(alloc),
-        room,
+    let mut host = Host {
+        alloc,
+        files,
+        stdin,
+        stdout: Narrow {
+            taken: Vec::new(alloc),
+            room,
+        },
+        stderr: Vec::new(alloc),
     };
-    let mut stderr = Vec::new(alloc);
-    let status = command(rt, alloc, words, files, stdin, &mut stdout, &mut stderr);
-    (status.code(), stdout.taken, stderr)
+    let status = command(rt, &mut host, words);
+    (status.code(), host.stdout.taken, host.stderr)
 }
 
 /// Whether a call with these files and a standard output that takes so many bytes answers this.
 pub(crate) fn answers<R: Threads + Wait + Sync>(
     rt: &R,
-    mut files: Torn,
+    files: Torn,
     words: &[&str],
     room: usize,
     want: (u8, &[u8], &str),
@@ -144,8 +149,8 @@ pub(crate) fn answers<R: Threads + Wait + Sync>(
         words_of(files.alloc, words),
         input_of(files.alloc, &BATCHES),
     ) {
-        (Some(words), Some(mut stdin)) => {
-            let got = bytes_of(rt, &mut files, &words, &mut stdin, room);
+        (Some(words), Some(stdin)) => {
+            let got = bytes_of(rt, files, &words, stdin, room);
             got.0 == want.0 && got.1.as_slice() == want.1 && got.2.as_slice() == want.2.as_bytes()
         }
         _ => false,

@@ -1,5 +1,4 @@
 pub mod Blocks
-pub mod Division
 pub mod Folding
 pub mod Linear
 pub mod Numbers

@@ -1,9 +1,8 @@
 -- The window as a part of a longer list.
 use Rattle.std.proofs.Common.{◌≡◌, ℕ, zero, suc, ◌+◌, ◌*◌, ◌/◌, ◌%◌, ◌^◌, ◌<◌, ◌≤◌, List, [], ◌∷◌, ◌++◌, length, get_or}
-use Rattle.std.proofs.Common.{take, drop, set, refl, sym, ◌∙◌, ap, subst, arith, div-one, length-drop}
-use Rattle.std.proofs.Common.{mod-eq_of_lt, lit<}
+use Rattle.std.proofs.Common.{take, drop, set, refl, sym, ◌∙◌, ap, arith, div-one, length-drop, mod-eq_of_lt, add-zero}
 use Rattle.std.proofs.{Math.Seq.take-suc-set, Math.Seq.paste, lemmas.List.Edits.take-paste}
-use Rattle.std.proofs.lemmas.Nat.{mod_below, xor_lt, shr-shr, shr_below, or_shifted}
+use Rattle.std.proofs.lemmas.Nat.{shr-shr, shr_below, or_shifted}
 use Rattle.std.specs.Int.{w128, to_le_bytes}
 use Rattle.std.proofs.lemmas.List.{drop_more, drop-set-add, length-take-le}
 use Rattle.std.proofs.lemmas.Simd.{Each1-get_or, Each1-from_get_or, Each1-chunk, length-chunk, get_or-chunk}
@@ -15,6 +14,7 @@ use Rattle.crc32c.specs.Window.{sum_of_five, later, window_behind, window_at, af
 use Rattle.crc32c.proofs.Numbers.{number_l-append, number_l-below, number_l-digit, without_first, number_l-bytes}
 use Rattle.crc32c.proofs.Numbers.{bytes-below}
 use Rattle.crc32c.proofs.{Folding.after_window-next, Folding.after_window-kept, Steps.after-number}
+use Rattle.crc32c.proofs.Sparse.{sum_of_five-of}
 
 -- each of the blocks has 128 bits
 abbrev pub Blocks : List ℕ → Type 0
@@ -26,10 +26,8 @@ Blocks-from xs below = Each1-from_get_or (λ b. b < 2 ^ 128) xs 0 (λ i _. below
 pub window_at-below : (place : ℕ) (blocks : List ℕ) → place + 209 ≤ length blocks → Blocks blocks
     → window_at place blocks < 2 ^ (128 * 209)
 window_at-below place blocks within fits =
-    let below = number_l-below (2 ^ 128) (chunk place 209 blocks)
-    (Each1-chunk (λ x. x < 2 ^ 128) place 209 blocks fits) in
-    let long = length-chunk place 209 blocks within in
-    subst (λ k. window_at place blocks < (2 ^ 128) ^ k) long below
+    let each = Each1-chunk (λ x. x < 2 ^ 128) place 209 blocks fits in
+    rw (length-chunk place 209 blocks within) at (number_l-below (2 ^ 128) (chunk place 209 blocks) each)
 
 -- a block of the window
 pub window_at-block : (place j : ℕ) (blocks : List ℕ) → place + 209 ≤ length blocks → j < 209 → Blocks blocks
@@ -40,15 +38,6 @@ window_at-block place j blocks within early fits =
     (Each1-chunk (λ x. x < 2 ^ 128) place 209 blocks fits)
     ∙ get_or-chunk place 209 blocks j 0 early
 
-sum_of_five-mod : (a b c d e : ℕ) → sum_of_five a b c d e % 2 ^ 128
-    ≡ sum_of_five (a % 2 ^ 128) (b % 2 ^ 128) (c % 2 ^ 128) (d % 2 ^ 128) (e % 2 ^ 128)
-sum_of_five-mod a b c d e =
-    let abc = bit_xor (bit_xor a b) c in
-    xor_mod (bit_xor abc d) e 128
-    ∙ ap (λ s. bit_xor s (e % 2 ^ 128)) (xor_mod abc d 128)
-    ∙ ap (λ s. bit_xor (bit_xor s (d % 2 ^ 128)) (e % 2 ^ 128)) (xor_mod (bit_xor a b) c 128)
-    ∙ ap (λ s. bit_xor (bit_xor (bit_xor s (c % 2 ^ 128)) (d % 2 ^ 128)) (e % 2 ^ 128)) (xor_mod a b 128)
-
 -- what a window adds to the block behind it
 pub moved-first : (place : ℕ) (blocks : List ℕ) → place + 209 ≤ length blocks → Blocks blocks
     → window_behind (window_at place blocks) % 2 ^ 128
@@ -57,22 +46,13 @@ pub moved-first : (place : ℕ) (blocks : List ℕ) → place + 209 ≤ length b
 unfolding window_behind
 moved-first place blocks within fits =
     let w = window_at place blocks in
-    let b0 : w % 2 ^ 128 ≡ get_or blocks place 0 =
-    ap (λ q. q % 2 ^ 128) (sym (div-one w)) ∙ window_at-block place 0 blocks within (omega arith) fits
-    ∙ ap (λ k. get_or blocks k 0) (let e : place + 0 ≡ place = omega arith in e) in
-    let b1 : later 14 w % 2 ^ 128 ≡ get_or blocks (place + 14) 0 =
-    window_at-block place 14 blocks within (omega arith) fits in
-    let b2 : later 39 w % 2 ^ 128 ≡ get_or blocks (place + 39) 0 =
-    window_at-block place 39 blocks within (omega arith) fits in
-    let b3 : later 54 w % 2 ^ 128 ≡ get_or blocks (place + 54) 0 =
-    window_at-block place 54 blocks within (omega arith) fits in
-    let b4 : later 144 w % 2 ^ 128 ≡ get_or blocks (place + 144) 0 =
-    window_at-block place 144 blocks within (omega arith) fits in
-    sum_of_five-mod w (later 14 w) (later 39 w) (later 54 w) (later 144 w)
-    ∙ rw (b0, b1, b2, b3, b4) refl
+    let block = λ (j : ℕ) (early : j < 209). window_at-block place j blocks within early fits in
+    let first = rw (div-one, add-zero) at (block 0 (omega arith)) in
+    sum_of_five-of (λ v. v % 2 ^ 128) (λ a b. xor_mod a b 128) w (later 14 w) (later 39 w) (later 54 w) (later 144 w)
+    ∙ rw (first, block 14 (omega arith), block 39 (omega arith), block 54 (omega arith), block 144 (omega arith)) refl
 
 pub block-below : (block : List ℕ) → length block ≡ 16 → Each1 (λ b. b < 256) block → number_l 256 block < 2 ^ 128
-block-below block long fits = subst (λ n. number_l 256 block < 256 ^ n) long (number_l-below 256 block fits)
+block-below block long fits = rw long at (number_l-below 256 block fits)
 
 -- the block that is read, with what the window adds to it
 pub folded_is : (place read : ℕ) (space block : List ℕ) → place + 209 ≤ length space → Blocks space →
@@ -82,18 +62,10 @@ pub folded_is : (place read : ℕ) (space block : List ℕ) → place + 209 ≤ 
     (get_or space (place + 39) 0) (get_or space (place + 54) 0) (get_or space (place + 144) 0)) read)))
     (later 1 (window_at place space)) rest
 folded_is place read space block within fits long bytes is r rest =
-    let sum = sum_of_five (get_or space place 0) (get_or space (place + 14) 0) (get_or space (place + 39) 0)
-    (get_or space (place + 54) 0) (get_or space (place + 144) 0) in
-    let below : number_l 256 block < 2 ^ 128 = block-below block long bytes in
-    let sum_below : sum < 2 ^ 128 =
-    subst (λ n. n < 2 ^ 128) (moved-first place space within fits)
-    (mod_below (window_behind (window_at place space)) (2 ^ 128) (lit< tt)) in
-    let whole : bit_xor sum read < 2 ^ 128 = xor_lt 128 sum read sum_below (rw is below) in
-    let same : bit_xor sum read ≡ bit_xor (window_behind (window_at place space)) (number_l 256 block) % 2 ^ 128 =
-    sym (xor_mod (window_behind (window_at place space)) (number_l 256 block) 128
-    ∙ ap (λ m. bit_xor m (number_l 256 block % 2 ^ 128)) (moved-first place space within fits)
-    ∙ ap (bit_xor sum) (mod-eq_of_lt below ∙ sym is)) in
-    after_window-next r (window_at place space) (bit_xor sum read) block rest long below same
+    let window = window_at place space in
+    let below = block-below block long bytes in
+    after_window-next r window _ block rest long below
+    (rw (xor_mod (window_behind window) _ 128, moved-first place space within fits, mod-eq_of_lt below, is) refl)
 
 -- the window one place on, where a block was set behind it
 pub window_at-next : (place x : ℕ) (blocks : List ℕ) → place + 209 < length blocks → Blocks blocks
@@ -102,25 +74,14 @@ window_at-next place x blocks within fits =
     let first = get_or blocks place 0 in
     let others = drop (place + 1) blocks in
     let front = take 208 others in
-    let split : drop place blocks ≡ first ∷ others = drop_more blocks place 0 (omega arith) in
-    let whole : window_at place blocks ≡ first + 2 ^ 128 * number_l (2 ^ 128) front =
-    ap (λ xs. number_l (2 ^ 128) (take 209 xs)) split in
     let fits_first : first < 2 ^ 128 = Each1-get_or (λ b. b < 2 ^ 128) blocks place 0 (omega arith) fits in
     let kept : later 1 (window_at place blocks) ≡ number_l (2 ^ 128) front =
-    ap (λ n. n / 2 ^ 128) whole ∙ without_first (2 ^ 128) first (number_l (2 ^ 128) front) fits_first in
+    rw (drop_more blocks place 0 (omega arith)) (without_first (2 ^ 128) first (number_l (2 ^ 128) front) fits_first) in
     let room : 208 < length others = omega (arith, length-drop (place + 1) blocks) in
     let behind : place + 209 ≡ place + 1 + 208 = omega arith in
     let stored : chunk (place + 1) 209 (set blocks (place + 209) x) ≡ front ++ x ∷ [] =
-    ap (λ k. take 209 (drop (place + 1) (set blocks k x))) behind
-    ∙ ap (take 209) (drop-set-add (place + 1) blocks 208 x)
-    ∙ take-suc-set others 208 x room in
-    let long : length front ≡ 208 = length-take-le 208 others (omega arith) in
-    let one : number_l (2 ^ 128) (x ∷ []) ≡ x = omega arith in
-    ap (number_l (2 ^ 128)) stored
-    ∙ number_l-append (2 ^ 128) front (x ∷ [])
-    ∙ ap (λ k. number_l (2 ^ 128) front + (2 ^ 128) ^ k * number_l (2 ^ 128) (x ∷ [])) long
-    ∙ ap (λ v. number_l (2 ^ 128) front + 2 ^ (128 * 208) * v) one
-    ∙ ap (λ v. v + 2 ^ (128 * 208) * x) (sym kept)
+    rw (behind, drop-set-add (place + 1) blocks 208 x) (take-suc-set others 208 x room) in
+    rw (stored, number_l-append (2 ^ 128) front (x ∷ []), length-take-le 208 others (omega arith), kept) (omega arith)
 
 -- a block that is taken away into the window
 pub fold-step : (place x : ℕ) (space block : List ℕ) (rest : List (List ℕ)) → place + 209 < length space →
@@ -130,10 +91,8 @@ pub fold-step : (place x : ℕ) (space block : List ℕ) (rest : List (List ℕ)
     after_window 0 (window_at (place + 1) (set space (place + 209) x)) rest
     ≡ after_window 0 (window_at place space) (block ∷ rest)
 fold-step place x space block rest within fits below long e =
-    let window = window_at place space in
-    ap (λ w. after_window 0 w rest) (window_at-next place x space within fits)
-    ∙ after_window-kept window x rest below (window_at-below place space (omega arith) fits) long
-    ∙ sym e
+    let small = window_at-below place space (omega arith) fits in
+    rw (window_at-next place x space within fits, e) (after_window-kept (window_at place space) x rest below small long)
 
 -- a window without its first block, and nothing behind it
 pub window_at-emptied : (place : ℕ) (space : List ℕ) → place + 209 < length space → Blocks space
@@ -141,7 +100,7 @@ pub window_at-emptied : (place : ℕ) (space : List ℕ) → place + 209 < lengt
 window_at-emptied place space within fits = window_at-next place 0 space within fits ∙ omega arith
 
 pub later-one : (n w : ℕ) → later 1 (later n w) ≡ later (n + 1) w
-later-one n w = shr-shr w (128 * n) 128 ∙ ap (λ k. w / 2 ^ k) (let e : 128 * n + 128 ≡ 128 * (n + 1) = omega arith in e)
+later-one n w = let e : 128 * n + 128 ≡ 128 * (n + 1) = omega arith in rw (shr-shr w (128 * n) 128, e)
 
 -- the window at the front again
 pub window_at-front : (n size : ℕ) (space : List ℕ) → size ≡ 209 → n + 209 ≤ length space
@@ -153,9 +112,7 @@ window_at-front n size space e within =
 -- the bytes of a block
 pub after-bytes_of : (r x : ℕ) → x < 2 ^ 128 → register_after r (to_le_bytes w128 x) ≡ remainder 128 (bit_xor r x)
 after-bytes_of r x below =
-    after-number r (to_le_bytes w128 x) (bytes-below 0 16 x)
-    ∙ ap (λ n. remainder 128 (bit_xor r n)) (number_l-bytes 0 16 x ∙ ap (λ q. q % 2 ^ 128) (div-one x)
-    ∙ mod-eq_of_lt below)
+    rw (after-number r _ (bytes-below 0 16 x), number_l-bytes 0 16 x, div-one, mod-eq_of_lt below)
 
 -- the words of a number are those of its bytes
 pub words-are : (x j : ℕ) → x < 2 ^ 128 → j < 4 →
@@ -173,4 +130,4 @@ pub halves-are : (n high low : ℕ) → n < 2 ^ 128 → high ≡ n / 2 ^ 64 % 2 
     → bit_or ((high * 2 ^ 64) % 2 ^ 128) low ≡ n
 halves-are n high low below e f =
     let whole : (high * 2 ^ 64) % 2 ^ 128 ≡ high * 2 ^ 64 = omega arith in
-    ap (λ h. bit_or h low) whole ∙ or_shifted high 64 low (omega arith) ∙ omega arith
+    rw (whole, or_shifted high 64 low (omega arith)) (omega arith)

@@ -1,6 +1,6 @@
 -- The remainder after more bytes.
 use Rattle.std.proofs.Common.{◌≡◌, ℕ, suc, ◌+◌, ◌*◌, ◌/◌, ◌%◌, ◌^◌, ◌<◌, List, [], ◌∷◌, ◌++◌, length, get_or, take}
-use Rattle.std.proofs.Common.{refl, sym, ◌∙◌, ap, arith}
+use Rattle.std.proofs.Common.{refl, sym, arith}
 use Rattle.std.specs.Int.Bits.{bit_and, bit_xor, xor_zero_r, xor_shr, and_mask}
 use Rattle.std.specs.Simd.Lanes.{Each1, number_l}
 use Rattle.std.proofs.{lemmas.Nat.xor_comm, lemmas.List.take_more, lemmas.Simd.Each1-from_get_or}
@@ -15,11 +15,9 @@ unfolding remainder
 from_entry r b h =
     let p = bit_xor r b in
     let none : b / 2 ^ 8 ≡ 0 = omega arith in
-    let high : p / 2 ^ 8 ≡ r / 2 ^ 8 = xor_shr r b 8 ∙ ap (bit_xor (r / 2 ^ 8)) none ∙ xor_zero_r (r / 2 ^ 8) in
-    xor_comm (r / 2 ^ 8) (remainder 8 (bit_and p 255))
-    ∙ ap (λ q. bit_xor (remainder 8 q) (r / 2 ^ 8)) (and_mask p 8)
-    ∙ ap (bit_xor (remainder 8 (p % 2 ^ 8))) (sym high)
-    ∙ sym (remainder-split 0 p)
+    let low = remainder-split 0 p in
+    let turned = xor_comm (r / 2 ^ 8) (remainder 8 (p % 2 ^ 8)) in
+    cc (xor_shr r b 8, xor_zero_r (r / 2 ^ 8), and_mask p 8)
 
 pub after-append : (r : ℕ) (xs ys : List ℕ) → register_after r (xs ++ ys) ≡ register_after (register_after r xs) ys
 unfolding register_after
@@ -30,7 +28,7 @@ after-append r (x ∷ xs) ys = after-append (remainder 8 (bit_xor r x)) xs ys
 pub after-take_more : (r i : ℕ) (xs : List ℕ) → i < length xs
     → register_after r (take (i + 1) xs) ≡ remainder 8 (bit_xor (register_after r (take i xs)) (get_or xs i 0))
 unfolding register_after
-after-take_more r i xs h = ap (register_after r) (take_more xs i 0 h) ∙ after-append r (take i xs) (get_or xs i 0 ∷ [])
+after-take_more r i xs h = rw (take_more xs i 0 h, after-append)
 
 pub each_below : (xs : List ℕ) → ((i : ℕ) → get_or xs i 0 < 256) → Each1 (λ b. b < 256) xs
 each_below xs below = Each1-from_get_or (λ b. b < 256) xs 0 (λ i _. below i)
@@ -42,18 +40,14 @@ unfolding register_after remainder
 after-number r [] fits = sym (xor_zero_r r)
 after-number r (x ∷ xs) fits =
     let n = 8 * length xs in
-    let more : 8 + n ≡ 8 * suc (length xs) = omega arith in
-    let place : number_l 256 xs * 2 ^ 8 + x ≡ x + 256 * number_l 256 xs = omega arith in
-    after-number (remainder 8 (bit_xor r x)) xs fits.1
-    ∙ ap (remainder n) (remainder-joined 8 r x (number_l 256 xs) fits.0 ∙ ap (λ w. remainder 8 (bit_xor r w)) place)
-    ∙ sym (remainder-add 8 n (bit_xor r (x + 256 * number_l 256 xs)))
-    ∙ ap (λ m. remainder m (bit_xor r (x + 256 * number_l 256 xs))) more
+    let more : 8 * suc (length xs) ≡ 8 + n = omega arith in
+    let place : x + 256 * number_l 256 xs ≡ number_l 256 xs * 2 ^ 8 + x = omega arith in
+    rw (more, remainder-add 8 n, place, ← remainder-joined 8 r x (number_l 256 xs) fits.0)
+    (after-number (remainder 8 (bit_xor r x)) xs fits.1)
 
 -- the register that starts from all ones, inverted
 pub checksum_is : (xs : List ℕ) → ((i : ℕ) → get_or xs i 0 < 256) →
     bit_xor (register_after 0xFFFF_FFFF xs) 0xFFFF_FFFF ≡ checksum xs
 unfolding checksum
 checksum_is xs below =
-    ap (λ r. bit_xor r 0xFFFF_FFFF)
-    (after-number 0xFFFF_FFFF xs (each_below xs below)
-    ∙ ap (remainder (8 * length xs)) (xor_comm 0xFFFF_FFFF (number_l 256 xs)))
+    rw (after-number 0xFFFF_FFFF xs (each_below xs below), xor_comm 0xFFFF_FFFF (number_l 256 xs))

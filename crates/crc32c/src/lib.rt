@@ -103,11 +103,3 @@ pub fn sum(bytes: &[u8]) -> u32
     };
     after_bytes(r, rest) ^ u32::MAX
 }
-
-/// The checksum of the bytes, as [`sum`] gives it, one byte at a time by one table: the slower way,
-/// for comparison.
-pub fn sum_by_bytes(bytes: &[u8]) -> u32
-    ensures { result ≡ checksum bytes.now }
-{
-    after_bytes(u32::MAX, bytes) ^ u32::MAX
-}

@@ -5,7 +5,7 @@ use Rattle.machine_spec.specs.declared.instruction.Placed.{Placed}
 use Rattle.machine_spec.specs.Image.{Program, helpers_of, read_image, IsCodeOf}
 use Rattle.verifier_spec.specs.{declared.fault.VerifyFault.VerifyFault, Annotation.Claims, JoinedStates.joined_states}
 use Rattle.verifier_spec.proofs.BestAnnotation.{AreJoinedProper}
-use Rattle.explain.specs.declared.{explanation.Explanation.Explanation, explanation.Refusal.Refusal, way.Extent.Extent}
+use Rattle.explain.specs.declared.{explanation.Explanation.Explanation, explanation.Diagnosis.Diagnosis, way.Coverage.Coverage}
 use Rattle.explain.specs.Explanations.{IsVerdict, HasReason, listing, refusal_at, Explains}
 use Rattle.explain.proofs.Faulted.{refusal_reasoned, reasoned_within}
 
@@ -26,11 +26,11 @@ module _ (program : Program) (code : List Placed) (is_code : IsCodeOf program.im
   within (Some f) verdict =
       reasoned_within code states f (refusal_reasoned program code f is_code read proper verdict)
 
-  pub explained : (extent : Extent) (claims : Claims) (fault : Option VerifyFault) (explanation : Explanation)
-      → claims ≡ states → IsVerdict program fault → string_bytes explanation.lines ≡ listing extent code claims fault
+  pub explained : (coverage : Coverage) (claims : Claims) (fault : Option VerifyFault) (explanation : Explanation)
+      → claims ≡ states → IsVerdict program fault → string_bytes explanation.lines ≡ listing coverage code claims fault
       → explanation.refusal ≡ option_map (refusal_at program.table code claims) fault
-      → Explains extent program explanation
-  explained extent claims fault explanation is verdict lines refusal =
+      → Explains coverage program explanation
+  explained coverage claims fault explanation is verdict lines refusal =
       let refused : explanation.refusal ≡ option_map (refusal_at program.table code states) fault = refusal
       ∙ ap (λ (ns : Claims). option_map (refusal_at program.table code ns) fault) is in
       record {
@@ -38,7 +38,7 @@ module _ (program : Program) (code : List Placed) (is_code : IsCodeOf program.im
         read = read;
         fault = fault;
         verdict = verdict;
-        lines = lines ∙ ap (λ (ns : Claims). listing extent code ns fault) is;
+        lines = lines ∙ ap (λ (ns : Claims). listing coverage code ns fault) is;
         refusal = refused;
-        reasoned = subst (λ (r : Option Refusal). IfSome r HasReason) (sym refused) (has_reason fault verdict);
+        reasoned = subst (λ (r : Option Diagnosis). IfSome r HasReason) (sym refused) (has_reason fault verdict);
       }

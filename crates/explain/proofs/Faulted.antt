@@ -1,9 +1,7 @@
 -- The fault that a load refuses an image with is about something.
-use Rattle.std.proofs.Common.{◌≡◌, ◌≢◌, ℕ, suc, ◌+◌, ◌<◌, ◌≤◌, ℤ, Bool, not, true, false, ◌==◌, ◌&&◌, List, [], ◌∷◌}
-use Rattle.std.proofs.Common.{◌++◌, length, Option, Some, None, Ok, ◌⊎◌, refl, sym, ap, ◌∙◌, subst, arith, inl, inr}
-use Rattle.std.proofs.Common.{is_some, option_map, slice_get}
-use Rattle.std.proofs.lemmas.Bool.{cases_Bool, cases_lt, cond-true, cond-false}
-use Rattle.std.proofs.lemmas.Option.{none-some, same_Some, slice_get_past, slice_get_within}
+use Rattle.std.proofs.Common.{◌≡◌, ◌≢◌, ℕ, ◌<◌, Bool, not, true, false, ◌==◌, ◌&&◌, List, [], ◌∷◌, ◌++◌, length, Option}
+use Rattle.std.proofs.Common.{Some, None, Ok, ◌⊎◌, refl, sym, ap, ◌∙◌, arith, inl, inr, is_some, option_map, slice_get}
+use Rattle.std.proofs.lemmas.{Bool.cases_Bool, Bool.cases_lt, Option.slice_get_past, Option.slice_get_within}
 use Rattle.machine_spec.specs.{declared.helper.Helper.Helper, declared.instruction.Placed.Placed}
 use Rattle.machine_spec.specs.{declared.summary.Summary.Summary, Summaries.summary_of}
 use Rattle.machine_spec.specs.Image.{Program, helpers_of, read_image, IsCodeOf}
@@ -13,17 +11,19 @@ use Rattle.verifier_spec.specs.declared.{state.Abstract.Abstract, fault.Check.Ch
 use Rattle.verifier_spec.specs.declared.fault.LoadFault.TheVariants.{Verify}
 use Rattle.verifier_spec.specs.{Kinds.kind_at, Kinds.is_unknown, States.is_proper, States.entry_state}
 use Rattle.verifier_spec.specs.JoinedStates.{joined_states}
-use Rattle.verifier_spec.specs.Checks.{checks, shape_checks, leads_nowhere, leads_back, jump_of}
+use Rattle.verifier_spec.specs.Checks.{checks, shape_checks, leads_nowhere, leads_back, jump_of, may_write_record}
+use Rattle.verifier_spec.specs.Checks.{may_leave_record, may_leave_stack}
 use Rattle.verifier_spec.specs.Annotation.{Claims, claim_at, is_covered, are_edges_covered, reached_checks, failed_at}
-use Rattle.verifier_spec.specs.Annotation.{fault_or, fault_from, fault_of}
+use Rattle.verifier_spec.specs.Annotation.{fault_of}
 use Rattle.verifier_spec.specs.Loading.{load_fault, code_fault, IsRefusedWith}
 use Rattle.verifier_spec.proofs.{JoinedStates.claim_joined, BestAnnotation.AreJoinedProper}
-use Rattle.verifier_spec.proofs.BestAnnotation.{fault_is_other}
+use Rattle.verifier_spec.proofs.{BestAnnotation.fault_is_other, Faults.found_in_code, Faults.first_of-append}
+use Rattle.verifier_spec.proofs.Faults.{first_of-reported}
 use Rattle.explain.specs.declared.reason.Reason.{Reason}
 use Rattle.explain.specs.Reasons.{landing_slot, outside_record, shape_reason, state_reason, reason_of, placed_reason}
 use Rattle.explain.specs.Reasons.{reason_at}
-use Rattle.explain.proofs.Reasoned.{some_map, found, takes_wrong, is_based_wrong, tests_wrong, writes_record}
-use Rattle.explain.proofs.Reasoned.{leaves_record, leaves_stack, argument_found}
+use Rattle.explain.proofs.Reasoned.{some_map, some_if, found, takes_wrong, is_based_wrong, tests_wrong, reached_if}
+use Rattle.explain.proofs.Reasoned.{argument_found}
 use Rattle.explain.proofs.UnsetBytes.{byte_unset}
 
 -- ---- rows of checks
@@ -36,60 +36,40 @@ AreReasoned reason (row ∷ rows) = (row.0 ≡ true → is_some (reason row.1) �
 
 first_reasoned : (reason : Check → Option Reason) (rows : List (Bool × Check)) (kind : Check) →
     AreReasoned reason rows → first_of rows ≡ Some kind → is_some (reason kind) ≡ true
-first_reasoned reason [] kind all e = absurd (none-some kind e)
+first_reasoned reason [] kind all e = cc
 first_reasoned reason (row ∷ rows) kind all e = elim (cases_Bool row.0) [
-  | inl holds ↦
-      let same : row.1 ≡ kind = same_Some row.1 kind (sym (cond-true row.0 (Some row.1) (first_of rows) holds) ∙ e) in
-      subst (λ (c : Check). is_some (reason c) ≡ true) same (all.0 holds)
-  | inr fails ↦ first_reasoned reason rows kind (all.1 fails)
-      (sym (cond-false row.0 (Some row.1) (first_of rows) fails) ∙ e)
+  | inl holds ↦ let mine = all.0 holds in cc
+  | inr fails ↦ first_reasoned reason rows kind (all.1 fails) (cc)
 ]
 
 either : (xs ys : List (Bool × Check)) (kind : Check) → first_of (xs ++ ys) ≡ Some kind →
     (first_of xs ≡ Some kind) ⊎ (first_of ys ≡ Some kind)
-either [] ys kind e = inr e
-either (row ∷ xs) ys kind e = elim (cases_Bool row.0) [
-  | inl holds ↦ inl (cond-true row.0 (Some row.1) (first_of xs) holds
-      ∙ (sym (cond-true row.0 (Some row.1) (first_of (xs ++ ys)) holds) ∙ e))
-  | inr fails ↦ elim (either xs ys kind (sym (cond-false row.0 (Some row.1) (first_of (xs ++ ys)) fails) ∙ e)) [
-    | inl left ↦ inl (cond-false row.0 (Some row.1) (first_of xs) fails ∙ left)
-    | inr right ↦ inr right
-  ]
-]
+either xs ys kind e = elim (first_of xs) as (λ first. first_of xs ≡ first →
+    (first_of xs ≡ Some kind) ⊎ (first_of ys ≡ Some kind)) [
+      | Some other ↦ λ is. inl (is ∙ sym (first_of-reported xs ys other is) ∙ e)
+      | None ↦ λ none. inr (sym (first_of-append xs ys none) ∙ e)
+    ] refl
 
 -- ---- the rows of an instruction
-
-nowhere_some : (code : List Placed) (slot : ℕ) (jump : Option ℤ) → leads_nowhere code slot jump ≡ true →
-    is_some jump ≡ true
-nowhere_some code slot None e = cc
-nowhere_some code slot (Some offset) e = refl
-
-back_some : (jump : Option ℤ) → leads_back jump ≡ true → is_some jump ≡ true
-back_some None e = cc
-back_some (Some offset) e = refl
 
 shape_reasoned : (code : List Placed) (k : ℕ) (placed : Placed) →
     AreReasoned (shape_reason placed) (shape_checks code k placed)
 shape_reasoned code k placed =
     let jump = jump_of placed.instruction in (
-      λ e. some_map Reason.NoTarget _ (some_map (landing_slot placed.slot) jump (nowhere_some code placed.slot jump e)),
+      λ e. some_map Reason.NoTarget _ (some_map (landing_slot placed.slot) jump
+          (some_if (leads_nowhere code placed.slot) refl jump e)),
       λ _. (
-        λ e. some_map Reason.Back _ (some_map (landing_slot placed.slot) jump (back_some jump e)),
-        λ _.
-            (λ e. refl, λ _. tt),
+        λ e. some_map Reason.Back _ (some_map (landing_slot placed.slot) jump (some_if leads_back refl jump e)),
+        λ _. (λ e. refl, λ _. tt),
       ),
     )
-
-called_some : (helpers : List Helper) (call : Option ℤ) → calls_no_helper helpers call ≡ true → is_some call ≡ true
-called_some helpers None e = cc
-called_some helpers (Some number) e = refl
 
 state_reasoned : (helpers : List Helper) (placed : Placed) (m : Summary) (s : Abstract) → is_proper s ≡ true →
     AreReasoned (state_reason placed m s) (checks helpers m s)
 state_reasoned helpers placed m s proper = (
   λ e. refl,
   λ _. (
-    λ e. some_map Reason.NoHelper m.call (called_some helpers m.call e),
+    λ e. some_map Reason.NoHelper m.call (some_if (calls_no_helper helpers) refl m.call e),
     λ _. (
       λ e. some_map Reason.Unknown _ (found (λ r. is_unknown (kind_at s r)) (read_registers m) e),
       λ _. (
@@ -99,11 +79,11 @@ state_reasoned helpers placed m s proper = (
           λ _. (
             tests_wrong m s,
             λ _. (
-              λ e. some_map Reason.ReadOnly _ (writes_record m.memory s e),
+              λ e. some_map Reason.ReadOnly _ (reached_if may_write_record refl m.memory s e),
               λ _. (
-                λ e. some_map (outside_record s) _ (leaves_record m.memory s e),
+                λ e. some_map (outside_record s) _ (reached_if (may_leave_record s) refl m.memory s e),
                 λ _. (
-                  λ e. some_map Reason.OutsideStack _ (leaves_stack m.memory s e),
+                  λ e. some_map Reason.OutsideStack _ (reached_if may_leave_stack refl m.memory s e),
                   λ inside. (
                     λ e. byte_unset m.memory s proper inside e,
                     λ _. (
@@ -122,8 +102,7 @@ state_reasoned helpers placed m s proper = (
 )
 
 only_claims : (b : Bool) (kind : Check) → first_of ((b, Check.Notes) ∷ []) ≡ Some kind → kind ≡ Check.Notes
-only_claims true kind e = cc
-only_claims false kind e = cc
+only_claims b kind e = grind arith
 
 rows_reasoned : (helpers : List Helper) (code : List Placed) (claims : Claims) (k : ℕ) (placed : Placed)
     (known : Option Abstract) (kind : Check) → ((s : Abstract) → known ≡ Some s → is_proper s ≡ true) →
@@ -132,9 +111,8 @@ rows_reasoned : (helpers : List Helper) (code : List Placed) (claims : Claims) (
 rows_reasoned helpers code claims k placed None kind proper e other = elim
     (either (shape_checks code k placed) [] kind e) [
       | inl shape ↦ first_reasoned (shape_reason placed) (shape_checks code k placed) kind
-          (shape_reasoned code k placed)
-          shape
-      | inr none ↦ absurd (none-some kind none)
+          (shape_reasoned code k placed) shape
+      | inr none ↦ cc
     ]
 rows_reasoned helpers code claims k placed (Some s) kind proper e other =
     let m = summary_of placed.instruction in
@@ -159,53 +137,18 @@ module _ (helpers : List Helper) (code : List Placed) (claims : Claims)
       is_some (placed_reason (slice_get code k) (claim_at claims k) kind) ≡ true
   unfolding failed_at
   at_reasoned k placed kind at e other =
-      ap (λ (p : Option Placed). is_some (placed_reason p (claim_at claims k) kind)) at
-      ∙ rows_reasoned helpers code claims k placed (claim_at claims k) kind
-      (λ s is. proper k s (slice_get_within code k placed at) is) e other
-
-  or_reasoned : (k : ℕ) (failed : Option Check) (later : Option VerifyFault) (f : VerifyFault) →
-      ((kind : Check) → failed ≡ Some kind → kind ≢ Check.Notes →
-      is_some (placed_reason (slice_get code k) (claim_at claims k) kind) ≡ true) →
-      (later ≡ Some f → is_some (reason_at code claims f) ≡ true) → fault_or k failed later ≡ Some f →
-      f.kind ≢ Check.Notes → is_some (reason_at code claims f) ≡ true
-  or_reasoned k (Some kind) later f here there e other =
-      let mine : VerifyFault = record { pc = k; kind = kind } in
-      let same : mine ≡ f = same_Some mine f e in
-      let mine_other : kind ≢ Check.Notes = subst (λ (x : VerifyFault). x.kind ≢ Check.Notes) (sym same) other in
-      subst (λ (x : VerifyFault). is_some (reason_at code claims x) ≡ true) same (here kind refl mine_other)
-  or_reasoned k None later f here there e other = there e
-
-  from_reasoned : (k : ℕ) (rest : List Placed) (f : VerifyFault) →
-      ((i : ℕ) (placed : Placed) → slice_get rest i ≡ Some placed → slice_get code (k + i) ≡ Some placed) →
-      fault_from helpers code claims k rest ≡ Some f → f.kind ≢ Check.Notes → is_some (reason_at code claims f) ≡ true
-  from_reasoned k [] f all e other = absurd (none-some f e)
-  from_reasoned k (placed ∷ rest) f all e other =
-      let here : k + 0 ≡ k = omega arith in
-      let at : slice_get code k ≡ Some placed =
-      subst (λ (n : ℕ). slice_get code n ≡ Some placed) here (all 0 placed refl) in
-      or_reasoned k (failed_at helpers code claims k placed) (fault_from helpers code claims (k + 1) rest) f
-      (λ kind failed named. at_reasoned k placed kind at failed named)
-      (λ later. from_reasoned (k + 1) rest f (λ i p q.
-      let next : k + suc i ≡ (k + 1) + i = omega arith in
-      subst (λ (n : ℕ). slice_get code n ≡ Some p) next (all (suc i) p q))
-      later other)
-      e other
+      rw at (rows_reasoned helpers code claims k placed (claim_at claims k) kind
+      (λ s is. proper k s (slice_get_within code k placed at) is) e other)
 
   code_reasoned : (f : VerifyFault) → fault_of helpers code claims ≡ Some f → f.kind ≢ Check.Notes →
       is_some (reason_at code claims f) ≡ true
   unfolding fault_of
   code_reasoned f e other =
-      let start : Bool = (length claims == length code) && is_covered entry_state (claim_at claims 0) in
-      let claims_fault : VerifyFault = record { pc = 0; kind = Check.Notes } in
-      elim (cases_Bool start) [
-        | inl passes ↦ from_reasoned 0 code f (λ i placed at.
-            let same : i ≡ 0 + i = omega arith in
-            subst (λ (n : ℕ). slice_get code n ≡ Some placed) same at)
-            (sym (cond-true start (fault_from helpers code claims 0 code) (Some claims_fault) passes) ∙ e) other
-        | inr fails ↦
-            let same : claims_fault ≡ f = same_Some claims_fault f
-            (sym (cond-false start (fault_from helpers code claims 0 code) (Some claims_fault) fails) ∙ e) in
-            absurd (other (sym (ap (λ (x : VerifyFault). x.kind) same)))
+      elim (cases_Bool ((length claims == length code) && is_covered entry_state (claim_at claims 0))) [
+        | inl passes ↦
+            let found = found_in_code helpers code claims f (cc) in
+            at_reasoned f.pc found.placed f.kind found.at found.failed other
+        | inr fails ↦ absurd (other (cc))
       ]
 
 -- ---- the fault of an image
@@ -235,15 +178,10 @@ module _ (program : Program) (code : List Placed) (f : VerifyFault) where
 
 -- ---- where it is
 
-no_reason_past : (code : List Placed) (claims : Claims) (f : VerifyFault) → length code ≤ f.pc →
-    is_some (reason_at code claims f) ≡ false
-no_reason_past code claims f past =
-    ap (λ (p : Option Placed). is_some (placed_reason p (claim_at claims f.pc) f.kind)) (slice_get_past code f.pc past)
-
 -- a fault that is about something is at an instruction of the code
 pub reasoned_within : (code : List Placed) (claims : Claims) (f : VerifyFault) →
     is_some (reason_at code claims f) ≡ true → f.pc < length code
 reasoned_within code claims f reasoned = elim (cases_lt f.pc (length code)) [
   | inl below ↦ below
-  | inr past ↦ let none : is_some (reason_at code claims f) ≡ false = no_reason_past code claims f past in cc
+  | inr past ↦ let none = slice_get_past code f.pc past in cc
 ]

@@ -2,11 +2,13 @@ pub mod Growing
 pub mod Selected
 pub mod Unknown
 pub mod Places
+pub mod Sources
 pub mod Counted
-pub mod Rounds
+pub mod Marks
 pub mod Back
 pub mod Verdicts
 pub mod Reasoned
 pub mod UnsetBytes
+pub mod Arrivals
 pub mod Faulted
 pub mod Explained

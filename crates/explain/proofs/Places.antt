@@ -10,7 +10,7 @@ unfolding first_below
 none_first test = refl
 
 -- the last one, where none below it passes
-last_one : (test : ℕ → Bool) (k : ℕ) (b : Bool) → first_below k test ≡ None → test k ≡ b →
+pub last_one : (test : ℕ → Bool) (k : ℕ) (b : Bool) → first_below k test ≡ None → test k ≡ b →
     first_below (suc k) test ≡ (if b then Some k else None)
 unfolding first_below
 last_one test k b before e = ap (λ (o : Option ℕ). option_or o (if test k then Some k else None)) before

@@ -1,5 +1,5 @@
 -- The first register that is read and of which nothing is known, part by part.
-use Rattle.std.proofs.Common.{◌≡◌, ℕ, Bool, if◌then◌else◌, List, [], ◌∷◌, ◌++◌, ap, ◌∙◌, find, Option}
+use Rattle.std.proofs.Common.{◌≡◌, ℕ, Bool, if◌then◌else◌, List, [], ◌∷◌, ◌++◌, find}
 use Rattle.std.specs.{List.flat_map, Option.option_or}
 use Rattle.std.proofs.lemmas.List.Folds.{find-append}
 use Rattle.machine_spec.specs.declared.{helper.Argument.Argument, summary.Summary.Summary}
@@ -23,10 +23,7 @@ five : (p : ℕ → Bool) (a b c d e : List ℕ) →
     find p (a ++ b ++ c ++ d ++ e)
     ≡ option_or (option_or (option_or (option_or (find p a) (find p b)) (find p c)) (find p d)) (find p e)
 five p a b c d e =
-    find-append p (a ++ b ++ c ++ d) e
-    ∙ ap (λ (o : Option ℕ). option_or o (find p e)) (find-append p (a ++ b ++ c) d
-    ∙ ap (λ (o : Option ℕ). option_or o (find p d)) (find-append p (a ++ b) c
-    ∙ ap (λ (o : Option ℕ). option_or o (find p c)) (find-append p a b)))
+    rw (find-append p (a ++ b ++ c ++ d) e, find-append p (a ++ b ++ c) d, find-append p (a ++ b) c, find-append p a b)
 
 pub unknown_parts : (m : Summary) (s : Abstract) →
     unknown_register m s ≡ option_or (option_or (option_or

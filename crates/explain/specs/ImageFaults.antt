@@ -58,7 +58,7 @@ size_text n =
 abbrev pub opcode_text : ℕ → List ℕ
 opcode_text opcode =
     codes "no instruction has the opcode"
-    ++ (byte_text opcode ++ (codes ": make an image by `tools/image.py OBJECT IMAGE` or `klog asm TEXT IMAGE`" ++ 10
+    ++ (byte_text opcode ++ (codes ": make an image by `tools/klogc/klogc image OBJECT IMAGE` or `klog asm TEXT IMAGE`" ++ 10
     ∷ []))
 
 -- what an instruction is that klog leaves out, and what to do without it
@@ -140,5 +140,5 @@ object_mark = 0x7f ∷ 0x45 ∷ 0x4c ∷ 0x46 ∷ []
 unfoldable pub image_fault_text : List ℕ → IsaFault → List ℕ
 image_fault_text image fault =
     if starts_with nat_eq image object_mark
-    then codes "this is an object file and no image: make an image of it by `tools/image.py OBJECT IMAGE`" ++ 10 ∷ []
+    then codes "this is an object file and no image: make an image of it by `tools/klogc/klogc image OBJECT IMAGE`" ++ 10 ∷ []
     else fault_text image fault

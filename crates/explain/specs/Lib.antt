@@ -1,6 +1,8 @@
 pub mod Texts
 pub mod Reasons
 pub mod Loops
+pub mod Graphs
+pub mod Found
 pub mod Ways
 pub mod Meetings
 pub mod Hints

@@ -1,6 +1,6 @@
 -- Whether the code that a jump back leads to comes to the jump again.
 use Rattle.std.specs.Prelude.{ℕ, zero, suc, ◌+◌, ℤ, pos, Bool, false, ◌==◌, ◌&&◌, ◌||◌, not, int_lt, if◌then◌else◌}
-use Rattle.std.specs.Prelude.{List, [], ◌∷◌, ◌++◌, length, slice_get, slice_index_or, unsigned_abs, Option, Some, None}
+use Rattle.std.specs.Prelude.{List, length, slice_get, slice_index_or, unsigned_abs, Option, Some, None}
 use Rattle.machine_spec.specs.declared.{instruction.Placed.Placed, summary.Summary.Summary}
 use Rattle.machine_spec.specs.{Summaries.summary_of, Image.number_at}
 use Rattle.verifier_spec.specs.Checks.{never_falls}
@@ -50,11 +50,6 @@ comes_to code to zero from = from == to
 comes_to code to (suc steps) from = is_marked_next code (comes_to code to steps) from
 
 -- ---- marks in a list
-
--- what a function gives of the numbers below one
-unfoldable pub list_below : ℕ → (ℕ → Bool) → List Bool
-list_below zero test = []
-list_below (suc n) test = list_below n test ++ test n ∷ []
 
 -- An instruction is marked in a list of marks by instruction number; past its end none is.
 abbrev pub is_marked : List Bool → ℕ → Bool

@@ -95,6 +95,11 @@ module _ (table : Table) (code : List Placed) (claims : Claims) (r : ℕ) where
   abbrev pub differs : ℕ → Abs → ℕ → Bool
   differs j kind k = is_other kind (arrival j k)
 
+  -- one that propagates a kind of another sort than this one, if one is given, else one that propagates anything
+  abbrev pub passes : Option Abs → ℕ → ℕ → Bool
+  passes None j k = arrives j k
+  passes (Some kind) j k = differs j kind k
+
   abbrev pub met_with : ℕ → ℕ → Abs → Option ℕ → Loss
   met_with j k kind (Some other) =
       Loss.Here (Hint.Met (edge_from code k kind) (edge_from code other (unwrap_or (arrival j other) Abs.None))

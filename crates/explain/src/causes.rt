@@ -6,6 +6,7 @@ ghost use Rattle.machine_spec.specs.Summaries.{summary_of};
 ghost use Rattle.explain.specs.Reasons as definitions;
 
 use crate::accesses::{outside_record, reached_bytes, unset_byte};
+use crate::graph::landing_slot;
 use crate::operands::{first_wrong_argument, wrong_argument, wrong_type};
 use crate::reason::Reason;
 use crate::registers::unknown_register;
@@ -17,13 +18,6 @@ use notes::claim_at;
 use verifier_spec::{Abstract, Check, VerifyFault};
 
 // ---- jumps
-
-/// The slot that a jump leads to.
-fn landing_slot(slot: usize, offset: i32) -> i128
-    ensures { result ≡ definitions.landing_slot slot offset }
-{
-    slot as i128 + 1 + offset as i128
-}
 
 fn landing_of(placed: Placed) -> Option<i128>
     ensures { result ≡ definitions.landing_of placed }

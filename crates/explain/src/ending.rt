@@ -13,10 +13,7 @@ use verifier_spec::{Check, VerifyFault};
 pub fn is_reached(states: &[Option<State>], k: usize) -> bool
     ensures { result ≡ is_some (claims.claim_at states.now k) }
 {
-    match claim_at(states, k) {
-        Some(_) => true,
-        None => false,
-    }
+    claim_at(states, k).is_some()
 }
 
 /// How many of the first instructions are never reached.

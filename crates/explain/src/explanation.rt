@@ -8,11 +8,12 @@ ghost use Rattle.explain.specs.Explanations.{ExplainsAs, HasVerdict};
 
 use crate::causes::reason_at;
 use crate::ending::push_end;
+use crate::graph::Graph;
 use crate::hint::Hint;
 use crate::hints::hint_at;
 use crate::listing::push_first;
 use crate::reason::Reason;
-use crate::way::{Extent, selection_of};
+use crate::way::{Coverage, selection_of};
 use abstract_regs::State;
 use annotate::{LoadFault, joined_states, load};
 use bpf_isa::{Code, decode};
@@ -23,7 +24,7 @@ use verifier_spec::{Check, VerifyFault};
 
 /// Why a program is refused.
 #[derive(Clone, Copy, Debug, PartialEq, Eq)]
-pub struct Refusal {
+pub struct Diagnosis {
     /// The check that fails, at the lowest instruction that fails one.
     pub fault: VerifyFault,
     /// What the check fails on.
@@ -32,7 +33,7 @@ pub struct Refusal {
     pub hint: Option<Hint>,
 }
 
-impl fmt::Display for Refusal {
+impl fmt::Display for Diagnosis {
     fn fmt<W: fmt::Write>(&self, f: &mut fmt::Formatter<W>) -> fmt::Result {
         let fault = self.fault;
         write!(f, "{fault}")?;
@@ -53,7 +54,7 @@ pub struct Explanation {
     /// the refused one are never reached, if any, and the verdict.
     pub lines: String,
     /// Why the program is refused, if it is.
-    pub refusal: Option<Refusal>,
+    pub refusal: Option<Diagnosis>,
 }
 
 /// What a refusal of a load says of a program: its image has no code, or it is refused with a fault.
@@ -96,17 +97,18 @@ fn printed_count(code: &Code, fault: Option<VerifyFault>) -> usize
 #[tactic(auto, using(crate::proofs::Selected::same_listed))]
 fn listing(
     alloc: Global,
-    code: &Code,
+    graph: &Graph<'_>,
     states: &[Option<State>],
     fault: Option<VerifyFault>,
-    extent: Extent,
+    coverage: Coverage,
 ) -> Result<String, AllocError>
-    requires { IfSome fault (λ f. f.pc < length code.now) }
-    ensures { IfOk result (λ text. string_bytes text ≡ definitions.listing extent code.now states.now fault) }
+    requires { IfSome fault (λ f. f.pc < length graph.now) }
+    ensures { IfOk result (λ text. string_bytes text ≡ definitions.listing coverage graph.now states.now fault) }
 {
     let mut text = String::new(alloc);
+    let code = graph.code();
     let count = printed_count(code, fault);
-    let selection = selection_of(alloc, code, extent, fault)?;
+    let selection = selection_of(alloc, graph, coverage, fault)?;
     push_first(&mut text, code, states, &selection, count)?;
     push_end(&mut text, states, count, fault)?;
     Ok(text)
@@ -115,16 +117,16 @@ fn listing(
 /// What is said of a fault.
 fn refusal_at(
     alloc: Global,
-    code: &Code,
+    graph: &Graph<'_>,
     states: &[Option<State>],
     table: Table,
     fault: VerifyFault,
-) -> Result<Refusal, AllocError>
-    ensures { IfOk result (λ refusal. refusal ≡ definitions.refusal_at table code.now states.now fault) }
+) -> Result<Diagnosis, AllocError>
+    ensures { IfOk result (λ refusal. refusal ≡ definitions.refusal_at table graph.now states.now fault) }
 {
-    let reason = reason_at(code, states, fault);
-    let hint = hint_at(alloc, code, states, table, fault, reason)?;
-    Ok(Refusal {
+    let reason = reason_at(graph.code(), states, fault);
+    let hint = hint_at(alloc, graph, states, table, fault, reason)?;
+    Ok(Diagnosis {
         fault,
         reason,
         hint,
@@ -133,18 +135,15 @@ fn refusal_at(
 
 fn refusal_with(
     alloc: Global,
-    code: &Code,
+    graph: &Graph<'_>,
     states: &[Option<State>],
     table: Table,
     fault: Option<VerifyFault>,
-) -> Result<Option<Refusal>, AllocError>
-    ensures { IfOk result (λ refusal. refusal ≡ option_map (definitions.refusal_at table code.now states.now) fault) }
+) -> Result<Option<Diagnosis>, AllocError>
+    ensures { IfOk result (λ refusal. refusal ≡ option_map (definitions.refusal_at table graph.now states.now) fault) }
 {
     match fault {
-        Some(fault) => match refusal_at(alloc, code, states, table, fault) {
-            Ok(refusal) => Ok(Some(refusal)),
-            Err(error) => Err(error),
-        },
+        Some(fault) => Ok(Some(refusal_at(alloc, graph, states, table, fault)?)),
         None => Ok(None),
     }
 }
@@ -156,14 +155,15 @@ fn explained(
     states: &[Option<State>],
     table: Table,
     fault: Option<VerifyFault>,
-    extent: Extent,
+    coverage: Coverage,
 ) -> Result<Explanation, AllocError>
     requires { IfSome fault (λ f. f.pc < length code.now) }
-    ensures lines { IfOk result (λ e. string_bytes e.lines ≡ definitions.listing extent code.now states.now fault) }
+    ensures lines { IfOk result (λ e. string_bytes e.lines ≡ definitions.listing coverage code.now states.now fault) }
     ensures refusal { IfOk result (λ e. e.refusal ≡ option_map (definitions.refusal_at table code.now states.now) fault) }
 {
-    let refusal = refusal_with(alloc, code, states, table, fault)?;
-    let lines = listing(alloc, code, states, fault, extent)?;
+    let graph = Graph::new(alloc, code)?;
+    let refusal = refusal_with(alloc, &graph, states, table, fault)?;
+    let lines = listing(alloc, &graph, states, fault, coverage)?;
     Ok(Explanation { lines, refusal })
 }
 
@@ -173,16 +173,16 @@ pub fn explain_image(
     alloc: Global,
     image: &[u8],
     table: Table,
-    extent: Extent,
+    coverage: Coverage,
 ) -> Result<Explanation, IsaFault>
-    ensures { ExplainsAs extent (program_of image.now table) result }
+    ensures { ExplainsAs coverage (program_of image.now table) result }
 {
     let fault = verdict(alloc, image, table)?;
     let code = decode(alloc, image)?;
     let Ok(states) = joined_states(alloc, &code, table) else {
         return Err(IsaFault::Memory);
     };
-    match explained(alloc, &code, &states, table, fault, extent) {
+    match explained(alloc, &code, &states, table, fault, coverage) {
         Ok(explanation) => Ok(explanation),
         Err(_) => Err(IsaFault::Memory),
     }

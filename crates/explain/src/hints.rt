@@ -6,12 +6,12 @@ ghost use Rattle.explain.specs.Hints as definitions;
 ghost use Rattle.explain.specs.Reasons.{first_below};
 
 use crate::accesses::{first_unset, is_unset_in};
+use crate::graph::Graph;
 use crate::hint::Hint;
 use crate::loops::back_hint;
 use crate::meeting::lost_hint;
 use crate::reason::{Reached, Reason};
 use abstract_regs::State;
-use bpf_isa::Code;
 use lattice::kinds;
 use machine_spec::{Placed, Region, STACK_SIZE, Summary, Table};
 use notes::claim_at;
@@ -224,11 +224,7 @@ fn room_hint(bytes: Reached, range: Interval) -> Hint
 fn room_hint_of(bytes: Option<Reached>, range: Option<Interval>) -> Option<Hint>
     ensures { result ≡ definitions.room_hint_of bytes range }
 {
-    match (bytes, range) {
-        (Some(bytes), Some(range)) => Some(room_hint(bytes, range)),
-        (None, _) => None,
-        (_, None) => None,
-    }
+    Some(room_hint(bytes?, range?))
 }
 
 // ---- by reason
@@ -261,38 +257,34 @@ fn hint_of(state: &Abstract, summary: Summary, reason: Reason) -> Option<Hint>
     }
 }
 
-fn hint_with(state: &Abstract, summary: Summary, reason: Option<Reason>) -> Option<Hint>
-    ensures { result ≡ definitions.hint_with state.now summary reason }
-{
-    hint_of(state, summary, reason?)
-}
-
 fn hint_where(placed: Placed, claim: Option<&State>, reason: Option<Reason>) -> Option<Hint>
     ensures { result ≡ definitions.hint_where placed (option_copied claim.entry) reason }
 {
-    match claim {
-        Some(state) => hint_with(state.as_abstract(), Summary::of(placed.instruction), reason),
-        None => None,
-    }
+    hint_of(
+        claim?.as_abstract(),
+        Summary::of(placed.instruction),
+        reason?,
+    )
 }
 
 /// The hint for a fault of a program with these states, which is about what is given.
 pub fn hint_at(
     alloc: Global,
-    code: &Code,
+    graph: &Graph<'_>,
     states: &[Option<State>],
     table: Table,
     fault: VerifyFault,
     reason: Option<Reason>,
 ) -> Result<Option<Hint>, AllocError>
-    ensures { IfOk result (λ hint. hint ≡ definitions.hint_at table code.now states.now fault reason) }
+    ensures { IfOk result (λ hint. hint ≡ definitions.hint_at table graph.now states.now fault reason) }
 {
+    let code = graph.code();
     if fault.pc >= code.len() {
         return Ok(None);
     }
     let placed = code.get(fault.pc);
-    let back = back_hint(alloc, code, fault.pc, placed)?;
-    let lost = lost_hint(code, states, table, fault.pc, reason);
+    let back = back_hint(alloc, graph, fault.pc, placed)?;
+    let lost = lost_hint(graph, states, table, fault.pc, reason);
     let found = hint_where(placed, claim_at(states, fault.pc), reason);
     Ok(back.or(lost).or(found))
 }

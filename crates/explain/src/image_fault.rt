@@ -20,6 +20,7 @@ fn push_byte(text: &mut String, byte: u8) -> Result<(), AllocError>
 }
 
 /// Appends the first eight bytes of some.
+#[tactic(auto, using(crate::proofs::Growing::none_yet, crate::proofs::Growing::one_more))]
 fn push_bytes(text: &mut String, bytes: &[u8]) -> Result<(), AllocError>
     ensures { OnOk result (string_bytes text.new ≡ string_bytes text.old ++ definitions.bytes_text bytes.now) }
 {
@@ -115,7 +116,9 @@ fn push_opcode(text: &mut String, opcode: u8) -> Result<(), AllocError>
 {
     text.push_str("no instruction has the opcode")?;
     push_byte(text, opcode)?;
-    text.push_str(": make an image by `tools/image.py OBJECT IMAGE` or `klog asm TEXT IMAGE`\n")
+    text.push_str(
+        ": make an image by `tools/klogc/klogc image OBJECT IMAGE` or `klog asm TEXT IMAGE`\n",
+    )
 }
 
 /// What an instruction is that klog leaves out, and what to do without it.
@@ -241,7 +244,7 @@ fn push_lines(text: &mut String, image: &[u8], fault: IsaFault) -> Result<(), Al
 {
     if image.starts_with(b"\x7fELF") {
         text.push_str(
-            "this is an object file and no image: make an image of it by `tools/image.py OBJECT IMAGE`\n",
+            "this is an object file and no image: make an image of it by `tools/klogc/klogc image OBJECT IMAGE`\n",
         )
     } else {
         push_fault(text, image, fault)

@@ -8,6 +8,7 @@ mod accesses;
 mod causes;
 mod ending;
 mod explanation;
+mod graph;
 mod hint;
 mod hints;
 mod image_fault;
@@ -21,8 +22,8 @@ mod shown;
 mod slot_bytes;
 mod way;
 
-pub use explanation::{Explanation, Refusal, explain_image};
+pub use explanation::{Diagnosis, Explanation, explain_image};
 pub use hint::{Edge, Hint};
 pub use image_fault::image_fault_text;
 pub use reason::{Reached, Reason};
-pub use way::Extent;
+pub use way::Coverage;

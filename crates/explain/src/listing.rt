@@ -34,6 +34,7 @@ fn push_register(text: &mut String, register: usize, kind: Abs) -> Result<(), Al
 }
 
 /// Appends the line of the registers.
+#[tactic(auto, using(crate::proofs::Growing::none_yet, crate::proofs::Growing::one_more))]
 fn push_registers(text: &mut String, state: &State) -> Result<(), AllocError>
     ensures { OnOk result (string_bytes text.new ≡ string_bytes text.old ++ definitions.registers_text state.now) }
 {
@@ -116,6 +117,7 @@ fn push_place(text: &mut String, set: &StackSet, place: u64) -> Result<(), Alloc
 }
 
 /// Appends the lines of the stack places that are set.
+#[tactic(auto, using(crate::proofs::Growing::none_yet, crate::proofs::Growing::one_more))]
 fn push_stack(text: &mut String, set: &StackSet) -> Result<(), AllocError>
     ensures { OnOk result (string_bytes text.new ≡ string_bytes text.old ++ definitions.stack_text set.now) }
 {
@@ -195,6 +197,7 @@ fn push_selected(
 }
 
 /// Appends the lines of those of a program's first instructions that are listed.
+#[tactic(auto, using(crate::proofs::Growing::none_yet, crate::proofs::Growing::one_more))]
 pub fn push_first(
     text: &mut String,
     code: &Code,

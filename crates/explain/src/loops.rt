@@ -1,17 +1,17 @@
 //! Whether the code that a jump back leads to comes to the jump again.
 
-ghost use Rattle.std.specs.Prelude.{◌≡◌, ◌<◌, ◌==◌, Some, length, IfOk};
-ghost use Rattle.verifier_spec.specs.Checks as checks;
-ghost use Rattle.explain.specs.Reasons as reasons;
+ghost use Rattle.std.specs.Prelude.{◌≡◌, ◌+◌, ◌<◌, ℕ, Some, length, slice_get, IfOk, OnOk};
 ghost use Rattle.explain.specs.Loops as definitions;
-ghost use Rattle.explain.specs.Loops.{list_below, is_marked};
+ghost use Rattle.explain.specs.Loops.{is_marked};
+ghost use Rattle.explain.specs.Graphs.{sources_of};
+ghost use Rattle.explain.specs.Found as found;
+ghost use Rattle.explain.specs.Found.{AreFound, AreJumpsFound};
 
+use crate::graph::{Graph, landing_slot, target};
 use crate::hint::Hint;
 use bpf_isa::Code;
 use machine_spec::{MAX_SLOTS, Placed, Summary};
 use std::alloc::{AllocError, Global};
-
-// ---- one step
 
 /// Whether an instruction is marked.
 #[tactic(auto, using(std::proofs::lemmas::List::get_or_past))]
@@ -21,120 +21,118 @@ pub fn is_marked(marks: &[bool], k: usize) -> bool
     if k < marks.len() { marks[k] } else { false }
 }
 
-/// The slot to which a jump leads, which may be before the first.
-fn landing_slot(slot: usize, offset: i32) -> i64
-    requires { slot < MAX_SLOTS }
-    ensures { result ≡ reasons.landing_slot slot offset }
+/// Whether the next instruction may follow on an instruction.
+fn follows(code: &Code, k: usize) -> bool
+    requires { k < length code.now }
+    ensures { result ≡ found.follows (slice_get code.now k) }
 {
-    slot as i64 + 1 + offset as i64
+    let summary = Summary::of(code.get(k).instruction);
+    !(summary.exits || (summary.jump.is_some() && summary.condition.is_none()))
 }
 
-/// The number of the instruction to which a jump leads, forward or back, if it leads to one.
-fn target(code: &Code, slot: usize, offset: i32) -> Option<usize>
-    requires { slot < MAX_SLOTS }
-    ensures { result ≡ definitions.target code.now slot offset }
+// ---- what comes to an instruction
+
+/// Marks an instruction and lists it, if it is not marked.
+fn mark(marks: &mut [bool], list: &mut Vec<usize>, k: usize) -> Result<(), AllocError>
+    requires { k < length marks.old }
+    ensures marks { OnOk result (marks.new ≡ found.marked_too marks.old k) }
+    ensures list { OnOk result (list.new.items ≡ found.listed_too marks.old list.old.items k) }
 {
-    let landing = landing_slot(slot, offset);
-    if landing < 0 {
-        None
-    } else {
-        code.at(landing.unsigned_abs() as usize)
+    if !is_marked(marks, k) {
+        marks[k] = true;
+        list.push(k)?;
     }
+    Ok(())
 }
 
-/// Whether an instruction's jump leads to a marked one.
-fn jumps_to_marked(code: &Code, marks: &[bool], slot: usize, jump: Option<i32>) -> bool
-    requires { slot < MAX_SLOTS }
-    ensures { result ≡ definitions.jumps_to_marked code.now (is_marked marks.now) slot jump }
+/// Marks and lists the instructions whose jumps lead to number j, which is at a position of the list.
+/// That and `to` are for contracts: nothing that runs depends on them.
+fn mark_jumps(
+    graph: &Graph<'_>,
+    marks: &mut [bool],
+    list: &mut Vec<usize>,
+    to: usize,
+    at: usize,
+    j: usize,
+) -> Result<(), AllocError>
+    requires found { AreFound graph.now to at marks.old list.old.items }
+    requires is_at { slice_get list.old.items at ≡ Some j }
+    ensures { OnOk result (AreJumpsFound graph.now to at j (length (sources_of graph.now j)) marks.new list.new.items) }
 {
-    match jump {
-        Some(offset) => match target(code, slot, offset) {
-            Some(k) => is_marked(marks, k),
-            None => false,
-        },
-        None => false,
+    for k in graph.sources(j) {
+        mark(marks, list, *k)?;
     }
+    Ok(())
 }
 
-/// Whether the next instruction never follows on an instruction.
-fn never_falls(summary: Summary) -> bool
-    ensures { result ≡ checks.never_falls summary }
+/// Marks and lists the instruction before number j, if that may follow on it.
+fn mark_fall(
+    graph: &Graph<'_>,
+    marks: &mut [bool],
+    list: &mut Vec<usize>,
+    to: usize,
+    at: usize,
+    j: usize,
+) -> Result<(), AllocError>
+    requires { AreJumpsFound graph.now to at j (length (sources_of graph.now j)) marks.old list.old.items }
+    ensures { OnOk result (AreFound graph.now to (at + 1) marks.new list.new.items) }
 {
-    summary.exits || (summary.jump.is_some() && summary.condition.is_none())
-}
-
-/// Whether the next instruction may follow on an instruction and is marked.
-fn falls_to_marked(marks: &[bool], k: usize, summary: Summary) -> bool
-    requires { k < MAX_SLOTS }
-    ensures { result ≡ definitions.falls_to_marked (is_marked marks.now) k summary }
-{
-    !never_falls(summary) && is_marked(marks, k + 1)
-}
-
-/// Whether an instruction leads to a marked one in one step.
-fn leads_to_marked(code: &Code, marks: &[bool], k: usize, placed: Placed) -> bool
-    requires number { k < MAX_SLOTS }
-    requires slot { placed.slot < MAX_SLOTS }
-    ensures { result ≡ definitions.leads_to_marked code.now (is_marked marks.now) k (Some placed) }
-{
-    let summary = Summary::of(placed.instruction);
-    falls_to_marked(marks, k, summary) || jumps_to_marked(code, marks, placed.slot, summary.jump)
-}
-
-// ---- rounds
-
-/// Marks the instruction with a number alone.
-#[tactic(auto, using(crate::proofs::Rounds::none_below, crate::proofs::Rounds::next_below))]
-fn first_marks(alloc: Global, code: &Code, number: usize) -> Result<Vec<bool>, AllocError>
-    ensures { IfOk result (λ marks. marks.items ≡ list_below (length code.now) (λ k. k == number)) }
-{
-    let mut marks = Vec::new(alloc);
-    for k in 0..code.len() {
-        marks.push(k == number)?;
+    if j == 0 {
+        return Ok(());
     }
-    Ok(marks)
+    if !follows(graph.code(), j - 1) {
+        return Ok(());
+    }
+    mark(marks, list, j - 1)?;
+    Ok(())
 }
 
-/// Marks also what leads to a marked instruction in one step.
-#[tactic(auto, using(crate::proofs::Rounds::none_below, crate::proofs::Rounds::next_below))]
-fn more_marks(alloc: Global, code: &Code, marks: &[bool]) -> Result<Vec<bool>, AllocError>
-    ensures { IfOk result (λ more. more.items ≡ list_below (length code.now) (definitions.is_marked_next code.now (is_marked marks.now))) }
+/// Marks what comes to the instruction that is listed.
+fn mark_all(
+    graph: &Graph<'_>,
+    marks: &mut [bool],
+    list: &mut Vec<usize>,
+    to: usize,
+) -> Result<(), AllocError>
+    requires { AreFound graph.now to 0 marks.old list.old.items }
+    ensures { OnOk result ((k : ℕ) → is_marked marks.new k ≡ definitions.comes_to graph.now to (length graph.now) k) }
 {
-    let mut more = Vec::new(alloc);
-    for k in 0..code.len() {
-        let is_next = is_marked(marks, k) || leads_to_marked(code, marks, k, code.get(k));
-        more.push(is_next)?;
+    let mut at = 0;
+    while at < list.len() {
+        let j = list[at];
+        mark_jumps(graph, marks, list, to, at, j)?;
+        mark_fall(graph, marks, list, to, at, j)?;
+        at += 1;
     }
-    Ok(more)
+    Ok(())
 }
 
 /// Marks the instructions from which the code comes to one.
-#[tactic(auto, using(crate::proofs::Rounds::round))]
-pub fn marks_to(alloc: Global, code: &Code, to: usize) -> Result<Vec<bool>, AllocError>
-    requires { to < length code.now }
-    ensures { IfOk result (λ marks. marks.items
-        ≡ list_below (length code.now) (definitions.comes_to code.now to (length code.now))) }
+pub fn marks_to(alloc: Global, graph: &Graph<'_>, to: usize) -> Result<Vec<bool>, AllocError>
+    requires { to < length graph.now }
+    ensures { IfOk result (λ marks. (k : ℕ)
+        → is_marked marks.items k ≡ definitions.comes_to graph.now to (length graph.now) k) }
 {
-    let mut marks = first_marks(alloc, code, to)?;
-    for _round in 0..code.len() {
-        marks = more_marks(alloc, code, &marks)?;
-    }
+    let mut marks = vec![in alloc; false; graph.code().len()]?;
+    let mut list = Vec::new(alloc);
+    marks[to] = true;
+    list.push(to)?;
+    mark_all(graph, &mut marks, &mut list, to)?;
     Ok(marks)
 }
 
 /// Whether the code from one instruction on comes to another.
-#[tactic(auto, using(crate::proofs::Rounds::found))]
-fn comes_to(alloc: Global, code: &Code, from: usize, to: usize) -> Result<bool, AllocError>
-    requires { to < length code.now }
-    ensures { IfOk result (λ comes. comes ≡ definitions.comes_to code.now to (length code.now) from) }
+fn comes_to(alloc: Global, graph: &Graph<'_>, from: usize, to: usize) -> Result<bool, AllocError>
+    requires { to < length graph.now }
+    ensures { IfOk result (λ comes. comes ≡ definitions.comes_to graph.now to (length graph.now) from) }
 {
-    let marks = marks_to(alloc, code, to)?;
+    let marks = marks_to(alloc, graph, to)?;
     Ok(is_marked(&marks, from))
 }
 
 // ---- the hint
 
-fn loop_or_order(comes: bool, landing: i64, slot: usize) -> Hint
+fn loop_or_order(comes: bool, landing: i128, slot: usize) -> Hint
     ensures { result ≡ definitions.loop_or_order comes landing slot }
 {
     if comes {
@@ -147,35 +145,35 @@ fn loop_or_order(comes: bool, landing: i64, slot: usize) -> Hint
 /// The hint for a jump, if it leads to an instruction.
 fn loop_hint(
     alloc: Global,
-    code: &Code,
+    graph: &Graph<'_>,
     number: usize,
     slot: usize,
     offset: i32,
 ) -> Result<Option<Hint>, AllocError>
-    requires number { number < length code.now }
+    requires number { number < length graph.now }
     requires slot { slot < MAX_SLOTS }
-    ensures { IfOk result (λ hint. hint ≡ definitions.loop_hint code.now number slot offset) }
+    ensures { IfOk result (λ hint. hint ≡ definitions.loop_hint graph.now number slot offset) }
 {
-    let Some(from) = target(code, slot, offset) else {
+    let Some(from) = target(graph.code(), slot, offset) else {
         return Ok(None);
     };
-    let comes = comes_to(alloc, code, from, number)?;
+    let comes = comes_to(alloc, graph, from, number)?;
     Ok(Some(loop_or_order(comes, landing_slot(slot, offset), slot)))
 }
 
 /// The hint for an instruction that jumps back, if it does.
 pub fn back_hint(
     alloc: Global,
-    code: &Code,
+    graph: &Graph<'_>,
     number: usize,
     placed: Placed,
 ) -> Result<Option<Hint>, AllocError>
-    requires number { number < length code.now }
+    requires number { number < length graph.now }
     requires slot { placed.slot < MAX_SLOTS }
-    ensures { IfOk result (λ hint. hint ≡ definitions.back_hint code.now number (Some placed)) }
+    ensures { IfOk result (λ hint. hint ≡ definitions.back_hint graph.now number (Some placed)) }
 {
     match Summary::of(placed.instruction).jump {
-        Some(offset) if offset < 0 => loop_hint(alloc, code, number, placed.slot, offset),
+        Some(offset) if offset < 0 => loop_hint(alloc, graph, number, placed.slot, offset),
         Some(_) => Ok(None),
         None => Ok(None),
     }

@@ -1,13 +1,13 @@
 //! Where a register that may hold nothing was lost.
 
-ghost use Rattle.std.specs.Prelude.{◌≡◌, ◌<◌, ◌≤◌, length, option_map, is_some, slice_get};
+ghost use Rattle.std.specs.Prelude.{◌≡◌, ◌<◌, ◌-◌, ◌&&◌, nat_lt, if◌then◌else◌, find, length, Some, None};
 ghost use Rattle.std.specs.Option.{option_copied};
-ghost use Rattle.verifier_spec.specs.Kinds.{kind_at};
-ghost use Rattle.verifier_spec.specs.Annotation.{claim_at};
 ghost use Rattle.explain.specs.Meetings as definitions;
 ghost use Rattle.explain.specs.Meetings.{arrival};
 ghost use Rattle.explain.specs.Reasons.{first_below};
+ghost use Rattle.explain.specs.Graphs.{sources_of};
 
+use crate::graph::Graph;
 use crate::hint::{Edge, Hint};
 use crate::reason::Reason;
 use abstract_regs::State;
@@ -22,10 +22,7 @@ use verifier_spec::Abs;
 fn is_number_of(number: Option<usize>, j: usize) -> bool
     ensures { result ≡ definitions.is_number_of number j }
 {
-    match number {
-        Some(k) => k == j,
-        None => false,
-    }
+    number == Some(j)
 }
 
 /// The kind of a register along an edge, if the edge is there.
@@ -35,53 +32,6 @@ fn kind_along(leads: bool, register: u8, edge: Option<State>) -> Option<Abs>
     match edge {
         Some(state) if leads => Some(state.kind(register as usize)),
         Some(_) => None,
-        None => None,
-    }
-}
-
-/// The kind of a register along the edges of an instruction, where they lead to another.
-fn kind_from(
-    code: &Code,
-    table: Table,
-    register: u8,
-    j: usize,
-    k: usize,
-    placed: Placed,
-    state: &State,
-) -> Option<Abs>
-    requires number { k < MAX_SLOTS }
-    requires slot { placed.slot < MAX_SLOTS }
-    ensures { result ≡ definitions.kind_passed table code.now register j k (Some placed) (Some state.now) }
-{
-    if state.check(placed.instruction, table).is_some() {
-        return None;
-    }
-    let jump = Summary::of(placed.instruction).jump;
-    let is_jump = is_number_of(code.target(placed.slot, jump), j);
-    if k + 1 != j && !is_jump {
-        return None;
-    }
-    let edges = state.transfer(placed.instruction);
-    kind_along(k + 1 == j, register, edges.next).or(kind_along(is_jump, register, edges.jump))
-}
-
-/// What an instruction propagates of a register to another.
-#[tactic(auto, unfolding(crate::specs::Meetings::arrival))]
-fn arrival(
-    code: &Code,
-    states: &[Option<State>],
-    table: Table,
-    register: u8,
-    j: usize,
-    k: usize,
-) -> Option<Abs>
-    ensures { result ≡ arrival table code.now states.now register j k }
-{
-    if k >= code.len() {
-        return None;
-    }
-    match claim_at(states, k) {
-        Some(state) => kind_from(code, table, register, j, k, code.get(k), state),
         None => None,
     }
 }
@@ -115,72 +65,95 @@ fn is_other(kind: Abs, other: Option<Abs>) -> bool
     }
 }
 
-/// Whether an instruction propagates something of a register to another.
-fn arrives(
-    code: &Code,
-    states: &[Option<State>],
+// ---- the edges to an instruction
+
+/// A register of a program, whose values are traced back along the edges that propagate them.
+#[derive(Drop)]
+struct Trace<'a> {
+    graph: &'a Graph<'a>,
+    states: &'a [Option<State>],
     table: Table,
     register: u8,
-    j: usize,
-    k: usize,
-) -> bool
-    ensures { result ≡ definitions.arrives table code.now states.now register j k }
-{
-    arrival(code, states, table, register, j, k).is_some()
 }
 
-/// Whether it propagates a kind of another sort.
-fn differs(
-    code: &Code,
-    states: &[Option<State>],
-    table: Table,
-    register: u8,
-    j: usize,
-    kind: Abs,
-    k: usize,
-) -> bool
-    ensures { result ≡ definitions.differs table code.now states.now register j kind k }
-{
-    is_other(kind, arrival(code, states, table, register, j, k))
-}
+impl<'a> Trace<'a> {
+    /// What an instruction propagates of the register to another, from the state before it.
+    fn kind_from(&self, j: usize, k: usize, placed: Placed, state: &State) -> Option<Abs>
+        requires number { k < MAX_SLOTS }
+        requires slot { placed.slot < MAX_SLOTS }
+        ensures { result ≡ definitions.kind_passed self.now.table self.now.graph.now self.now.register j k (Some placed) (Some state.now) }
+    {
+        let jump = Summary::of(placed.instruction).jump;
+        let is_next = k + 1 == j;
+        let is_jump = is_number_of(self.graph.code().target(placed.slot, jump), j);
+        if !is_next && !is_jump || state.check(placed.instruction, self.table).is_some() {
+            return None;
+        }
+        let edges = state.transfer(placed.instruction);
+        kind_along(is_next, self.register, edges.next).or(kind_along(
+            is_jump,
+            self.register,
+            edges.jump,
+        ))
+    }
 
-/// The first instruction that propagates something of a register to another.
-#[tactic(auto, using(crate::proofs::Places::none_first, crate::proofs::Places::none_more, crate::proofs::Places::found_first))]
-fn first_arrival(
-    code: &Code,
-    states: &[Option<State>],
-    table: Table,
-    register: u8,
-    j: usize,
-) -> Option<usize>
-    ensures { result ≡ first_below j (definitions.arrives table code.now states.now register j) }
-{
-    for k in 0..j {
-        if arrives(code, states, table, register, j, k) {
-            return Some(k);
+    /// What an instruction propagates of the register to another.
+    #[tactic(auto, unfolding(crate::specs::Meetings::arrival))]
+    fn arrival(&self, j: usize, k: usize) -> Option<Abs>
+        ensures { result ≡ arrival self.now.table self.now.graph.now self.now.states.now self.now.register j k }
+    {
+        if k >= self.graph.code().len() {
+            return None;
+        }
+        self.kind_from(j, k, self.graph.code().get(k), claim_at(self.states, k)?)
+    }
+
+    /// Whether it propagates a kind of another sort than the given one, or anything where none is given.
+    fn passes(&self, other: Option<Abs>, j: usize, k: usize) -> bool
+        ensures { result ≡ definitions.passes self.now.table self.now.graph.now self.now.states.now self.now.register other j k }
+    {
+        let arrival = self.arrival(j, k);
+        match other {
+            Some(kind) => is_other(kind, arrival),
+            None => arrival.is_some(),
         }
     }
-    None
-}
 
-/// The first instruction that propagates a kind of another sort.
-#[tactic(auto, using(crate::proofs::Places::none_first, crate::proofs::Places::none_more, crate::proofs::Places::found_first))]
-fn first_other(
-    code: &Code,
-    states: &[Option<State>],
-    table: Table,
-    register: u8,
-    j: usize,
-    kind: Abs,
-) -> Option<usize>
-    ensures { result ≡ first_below j (definitions.differs table code.now states.now register j kind) }
-{
-    for k in 0..j {
-        if differs(code, states, table, register, j, kind, k) {
-            return Some(k);
+    /// The first of those before an instruction whose jumps lead to it that does so.
+    fn first_jump(&self, other: Option<Abs>, j: usize) -> Option<usize>
+        ensures { result ≡ find (λ k. nat_lt k j && definitions.passes self.now.table self.now.graph.now self.now.states.now self.now.register other j k)
+            (sources_of self.now.graph.now j) }
+    {
+        for k in self.graph.sources(j) {
+            if *k < j && self.passes(other, j, *k) {
+                return Some(*k);
+            }
+        }
+        None
+    }
+
+    /// The one before an instruction, if it does so.
+    fn fall(&self, other: Option<Abs>, j: usize) -> Option<usize>
+        ensures { result ≡ (if nat_lt 0 j && definitions.passes self.now.table self.now.graph.now self.now.states.now self.now.register other j (j - 1)
+            then Some (j - 1) else None) }
+    {
+        if j > 0 && self.passes(other, j, j - 1) {
+            Some(j - 1)
+        } else {
+            None
         }
     }
-    None
+
+    /// The first that does so.
+    #[tactic(auto, using(crate::proofs::Arrivals::among_jumps, crate::proofs::Arrivals::after_jumps))]
+    fn first(&self, other: Option<Abs>, j: usize) -> Option<usize>
+        ensures { result ≡ first_below j (definitions.passes self.now.table self.now.graph.now self.now.states.now self.now.register other j) }
+    {
+        match self.first_jump(other, j) {
+            Some(k) => Some(k),
+            None => self.fall(other, j),
+        }
+    }
 }
 
 // ---- one instruction
@@ -219,91 +192,66 @@ fn is_lost_before(register: u8, claim: Option<&State>) -> bool
     }
 }
 
-fn lost_in(code: &Code, states: &[Option<State>], register: u8, k: usize) -> Loss
-    ensures { result ≡ definitions.lost_in code.now states.now register k }
-{
-    if is_lost_before(register, claim_at(states, k)) {
-        Loss::Before(k)
-    } else {
-        Loss::Here(Hint::Called(slot_of(code, k)))
+impl<'a> Trace<'a> {
+    fn lost_in(&self, k: usize) -> Loss
+        ensures { result ≡ definitions.lost_in self.now.graph.now self.now.states.now self.now.register k }
+    {
+        if is_lost_before(self.register, claim_at(self.states, k)) {
+            Loss::Before(k)
+        } else {
+            Loss::Here(Hint::Called(slot_of(self.graph.code(), k)))
+        }
     }
-}
 
-fn met_with(
-    code: &Code,
-    states: &[Option<State>],
-    table: Table,
-    register: u8,
-    j: usize,
-    first: (usize, Abs),
-    other: Option<usize>,
-) -> Loss
-    ensures { result ≡ definitions.met_with table code.now states.now register j first.0 first.1 other }
-{
-    match other {
-        Some(other) => {
-            let kind = arrival(code, states, table, register, j, other).unwrap_or(Abs::None);
-            Loss::Here(Hint::Met(
-                edge_from(code, first.0, first.1),
-                edge_from(code, other, kind),
+    fn met_with(&self, j: usize, k: usize, kind: Abs, other: Option<usize>) -> Loss
+        ensures { result ≡ definitions.met_with self.now.table self.now.graph.now self.now.states.now self.now.register j k kind other }
+    {
+        let code = self.graph.code();
+        match other {
+            Some(other) => Loss::Here(Hint::Met(
+                edge_from(code, k, kind),
+                edge_from(code, other, self.arrival(j, other).unwrap_or(Abs::None)),
                 slot_of(code, j),
-            ))
-        }
-        None => lost_in(code, states, register, first.0),
-    }
-}
-
-fn met_from(
-    code: &Code,
-    states: &[Option<State>],
-    table: Table,
-    register: u8,
-    j: usize,
-    k: usize,
-) -> Loss
-    ensures { result ≡ definitions.met_from table code.now states.now register j k (arrival table code.now states.now register j k) }
-{
-    match arrival(code, states, table, register, j, k) {
-        Some(kind) => {
-            let other = first_other(code, states, table, register, j, kind);
-            met_with(code, states, table, register, j, (k, kind), other)
-        }
-        None => Loss::Here(Hint::NeverSet),
-    }
-}
-
-/// What is said of an instruction before which nothing is known of a register.
-#[tactic(auto, unfolding(crate::specs::Meetings::step))]
-fn step(code: &Code, states: &[Option<State>], table: Table, register: u8, j: usize) -> Loss
-    ensures { result ≡ definitions.step table code.now states.now register j }
-{
-    match first_arrival(code, states, table, register, j) {
-        Some(k) => met_from(code, states, table, register, j, k),
-        None => Loss::Here(Hint::NeverSet),
-    }
-}
-
-// ---- from one instruction back to another
-
-/// Where a register that may hold nothing before an instruction was lost.
-#[tactic(auto, using(crate::proofs::Back::one_back, crate::proofs::Back::all_left))]
-fn lost_at(
-    code: &Code,
-    states: &[Option<State>],
-    table: Table,
-    register: u8,
-    pc: usize,
-) -> Option<Hint>
-    ensures { result ≡ definitions.lost_within table code.now states.now register (length code.now) pc }
-{
-    let mut at = pc;
-    for _step in 0..code.len() {
-        match step(code, states, table, register, at) {
-            Loss::Here(hint) => return Some(hint),
-            Loss::Before(k) => at = k,
+            )),
+            None => self.lost_in(k),
         }
     }
-    None
+
+    fn met_from(&self, j: usize, k: usize) -> Loss
+        ensures { result ≡ definitions.met_from self.now.table self.now.graph.now self.now.states.now self.now.register j k
+            (arrival self.now.table self.now.graph.now self.now.states.now self.now.register j k) }
+    {
+        match self.arrival(j, k) {
+            Some(kind) => self.met_with(j, k, kind, self.first(Some(kind), j)),
+            None => Loss::Here(Hint::NeverSet),
+        }
+    }
+
+    /// What is said of an instruction before which nothing is known of the register.
+    #[tactic(auto, unfolding(crate::specs::Meetings::step))]
+    fn step(&self, j: usize) -> Loss
+        ensures { result ≡ definitions.step self.now.table self.now.graph.now self.now.states.now self.now.register j }
+    {
+        match self.first(None, j) {
+            Some(k) => self.met_from(j, k),
+            None => Loss::Here(Hint::NeverSet),
+        }
+    }
+
+    /// Where the register that may hold nothing before an instruction was lost.
+    #[tactic(auto, using(crate::proofs::Back::one_back, crate::proofs::Back::all_left))]
+    fn lost_at(&self, pc: usize) -> Option<Hint>
+        ensures { result ≡ definitions.lost_within self.now.table self.now.graph.now self.now.states.now self.now.register (length self.now.graph.now) pc }
+    {
+        let mut at = pc;
+        for _step in 0..self.graph.code().len() {
+            match self.step(at) {
+                Loss::Here(hint) => return Some(hint),
+                Loss::Before(k) => at = k,
+            }
+        }
+        None
+    }
 }
 
 /// The register that a refusal finds nothing in.
@@ -319,13 +267,20 @@ fn lost_register(reason: Option<Reason>) -> Option<u8>
 
 /// The hint for a refusal at an instruction, if it finds nothing in a register.
 pub fn lost_hint(
-    code: &Code,
+    graph: &Graph<'_>,
     states: &[Option<State>],
     table: Table,
     pc: usize,
     reason: Option<Reason>,
 ) -> Option<Hint>
-    ensures { result ≡ definitions.lost_hint table code.now states.now pc reason }
+    ensures { result ≡ definitions.lost_hint table graph.now states.now pc reason }
 {
-    lost_at(code, states, table, lost_register(reason)?, pc)
+    let register = lost_register(reason)?;
+    let trace = Trace {
+        graph,
+        states,
+        table,
+        register,
+    };
+    trace.lost_at(pc)
 }

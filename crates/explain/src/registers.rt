@@ -10,16 +10,10 @@ use lattice::kinds;
 use machine_spec::{Argument, Condition, Helper, MemoryOperand, Operands, Source, Summary};
 use verifier_spec::Abstract;
 
-fn is_unknown_at(state: &Abstract, register: u8) -> bool
-    ensures { result ≡ is_unknown (kind_at state.now register) }
-{
-    kinds::is_unknown(kinds::kind_at(state, register))
-}
-
 fn unknown_at(state: &Abstract, register: u8) -> Option<u8>
     ensures { result ≡ find (λ r. is_unknown (kind_at state.now r)) (register ∷ []) }
 {
-    if is_unknown_at(state, register) {
+    if kinds::is_unknown(kinds::kind_at(state, register)) {
         Some(register)
     } else {
         None
@@ -29,11 +23,7 @@ fn unknown_at(state: &Abstract, register: u8) -> Option<u8>
 fn unknown_of_registers(state: &Abstract, first: u8, second: u8) -> Option<u8>
     ensures { result ≡ find (λ r. is_unknown (kind_at state.now r)) (first ∷ second ∷ []) }
 {
-    if is_unknown_at(state, first) {
-        Some(first)
-    } else {
-        unknown_at(state, second)
-    }
+    unknown_at(state, first).or(unknown_at(state, second))
 }
 
 fn unknown_source(state: &Abstract, source: Source) -> Option<u8>
@@ -48,11 +38,7 @@ fn unknown_source(state: &Abstract, source: Source) -> Option<u8>
 fn unknown_of_two(state: &Abstract, dst: u8, source: Source) -> Option<u8>
     ensures { result ≡ find (λ r. is_unknown (kind_at state.now r)) (dst ∷ source_registers source) }
 {
-    if is_unknown_at(state, dst) {
-        Some(dst)
-    } else {
-        unknown_source(state, source)
-    }
+    unknown_at(state, dst).or(unknown_source(state, source))
 }
 
 fn unknown_operand(state: &Abstract, takes: Operands) -> Option<u8>

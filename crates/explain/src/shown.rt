@@ -97,3 +97,33 @@ impl fmt::Display for Shown {
         }
     }
 }
+
+/// The bytes from the first to the last, both among them.
+#[derive(Clone, Copy)]
+pub struct Bytes(pub i128, pub i128);
+
+impl fmt::Display for Bytes {
+    fn fmt<W: fmt::Write>(&self, f: &mut fmt::Formatter<W>) -> fmt::Result {
+        let (first, last) = (self.0, self.1);
+        if first == last {
+            write!(f, "byte {first}")
+        } else {
+            write!(f, "bytes {first} to {last}")
+        }
+    }
+}
+
+/// The distances from the first to the second, both among them.
+#[derive(Clone, Copy)]
+pub struct Distances(pub i128, pub i128);
+
+impl fmt::Display for Distances {
+    fn fmt<W: fmt::Write>(&self, f: &mut fmt::Formatter<W>) -> fmt::Result {
+        let (low, high) = (self.0, self.1);
+        if low == high {
+            write!(f, "{low}")
+        } else {
+            write!(f, "{low} to {high}")
+        }
+    }
+}

@@ -5,15 +5,15 @@ ghost use Rattle.verifier_spec.specs.Annotation.{Claims};
 ghost use Rattle.explain.specs.Ways as definitions;
 
 use crate::ending::is_reached;
+use crate::graph::Graph;
 use crate::loops::{is_marked, marks_to};
 use abstract_regs::State;
-use bpf_isa::Code;
 use std::alloc::{AllocError, Global};
 use verifier_spec::VerifyFault;
 
 /// How much of a program is listed.
 #[derive(Clone, Copy, Debug, PartialEq, Eq)]
-pub enum Extent {
+pub enum Coverage {
     /// All instructions, or those up to the refused one.
     All,
     /// The refused instruction, and the reached ones from which the code comes to it.
@@ -44,30 +44,30 @@ pub fn is_selected(selection: &Selection, states: &[Option<State>], k: usize) ->
 }
 
 /// The instructions on the way to one.
-fn way_to(alloc: Global, code: &Code, to: usize) -> Result<Selection, AllocError>
-    requires { to < length code.now }
+fn way_to(alloc: Global, graph: &Graph<'_>, to: usize) -> Result<Selection, AllocError>
+    requires { to < length graph.now }
     ensures { IfOk result (λ way. (claims : Claims) (k : ℕ)
-        → definitions.is_selected claims way k ≡ definitions.is_on_way code.now claims to k) }
+        → definitions.is_selected claims way k ≡ definitions.is_on_way graph.now claims to k) }
 {
-    let marks = marks_to(alloc, code, to)?;
+    let marks = marks_to(alloc, graph, to)?;
     Ok(Selection::Way { to, marks })
 }
 
 /// The instructions of a program that are listed.
 pub fn selection_of(
     alloc: Global,
-    code: &Code,
-    extent: Extent,
+    graph: &Graph<'_>,
+    coverage: Coverage,
     fault: Option<VerifyFault>,
 ) -> Result<Selection, AllocError>
-    requires { IfSome fault (λ f. f.pc < length code.now) }
+    requires { IfSome fault (λ f. f.pc < length graph.now) }
     ensures { IfOk result (λ selection. (claims : Claims) (k : ℕ)
-        → definitions.is_selected claims selection k ≡ definitions.is_listed extent code.now claims fault k) }
+        → definitions.is_selected claims selection k ≡ definitions.is_listed coverage graph.now claims fault k) }
 {
-    match extent {
-        Extent::All => Ok(Selection::All),
-        Extent::Refused => match fault {
-            Some(fault) => way_to(alloc, code, fault.pc),
+    match coverage {
+        Coverage::All => Ok(Selection::All),
+        Coverage::Refused => match fault {
+            Some(fault) => way_to(alloc, graph, fault.pc),
             None => Ok(Selection::Nothing),
         },
     }

@@ -16,7 +16,7 @@ ghost use Rattle.item_rows.specs.Blocks.{places_from, program_in, records_from, 
 use crate::blocks::Blocks;
 use crate::given::Given;
 use crate::origin::Origin;
-use crate::outcomes::{push_outcome, push_outcomes};
+use crate::outcomes::{BlockRecords, RecordAt, push_outcome, push_outcomes};
 use crate::records::timestamp;
 use crate::refs::RowRefs;
 use fates::{Counts, Fate};
@@ -83,7 +83,7 @@ impl<'a> BatchRun<'a> {
             None => Ok(Fate::Unprogrammed),
             Some(program) => {
                 let ending = program.run_into(self.alloc, &given.record(), place, emitted)?;
-                push_outcome(all, self.first, place, given, ending, emitted)
+                push_outcome(all, self.first, &RecordAt { place, given }, ending, emitted)
             }
         }
     }
@@ -179,16 +179,12 @@ impl<'a> BatchRun<'a> {
                 records.as_slice(),
                 &mut block,
             )?;
-            push_outcomes(
-                self.first,
-                places.as_slice(),
-                self.batch,
-                done,
-                &mut block,
-                &mut emitted,
-                all,
-                counts,
-            )?;
+            let ran = BlockRecords {
+                places: places.as_slice(),
+                logged: self.batch,
+                from: done,
+            };
+            push_outcomes(self.first, &ran, &mut block, &mut emitted, all, counts)?;
             blocks.keep(count, block);
             done += count;
         }

@@ -85,21 +85,7 @@ fn rows_from<'a>(
 
 /// The rows of an item in each output, by the program in force before it: none of a mark or the
 /// end, and none of a batch with no mark before it; and the counts of its records. Each record is run
-/// once, which no clause says. It fails only where memory runs out.
-pub fn item_rows(
-    alloc: Global,
-    origin: &Origin,
-    program: Option<&Program>,
-    item: &Item,
-) -> Result<ItemRows, AllocError>
-    requires { IsOrigin origin.now }
-    ensures rows { IfOk result (λ made. AreItemRows origin.now (option_map (λ p. p.now) program.entry) (item_view item.now) made.rows) }
-    ensures counts { IfOk result (λ made. AreItemCounts origin.now.input origin.now.outputs (option_map (λ p. p.now) program.entry) origin.now.offset (item_view item.now) made.counts) }
-{
-    item_rows_in(&mut Blocks::new(alloc), origin, program, item)
-}
-
-/// The same, in blocks that are used again. The rows refer to the item's records.
+/// once, which no clause says. The rows refer to the item's records. It fails only where memory runs out.
 pub fn item_refs_in<'a>(
     blocks: &mut Blocks,
     origin: &'a Origin,

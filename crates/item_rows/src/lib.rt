@@ -17,7 +17,7 @@ mod rows;
 
 pub use crate::blocks::Blocks;
 pub use crate::book_row::{BookRow, row_values};
-pub use crate::item::{OneOutput, item_refs_in, item_rows, item_rows_in, output_rows};
+pub use crate::item::{OneOutput, item_refs_in, item_rows_in, output_rows};
 pub use crate::laws::one_list_of_rows;
 pub use crate::origin::Origin;
 pub use crate::refs::RowRefs;

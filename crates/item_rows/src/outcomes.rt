@@ -19,6 +19,21 @@ use log_item::{Block, Emitted, EmittedList, Ending, LoggedBatch};
 use machine_spec::Place;
 use std::alloc::AllocError;
 
+/// A record of a log's batch, and where it is.
+#[derive(Drop)]
+pub(crate) struct RecordAt<'r, 'a> {
+    pub(crate) place: &'r Place,
+    pub(crate) given: &'r Given<'a>,
+}
+
+/// Records that were run as a block: those of a batch from number `from` on, each at its place.
+#[derive(Drop)]
+pub(crate) struct BlockRecords<'r, 'a> {
+    pub(crate) places: &'r [Place],
+    pub(crate) logged: &'a LoggedBatch,
+    pub(crate) from: usize,
+}
+
 /// The output partition of what a program emitted.
 #[inline(always)]
 fn out_of(emitted: &Emitted) -> usize
@@ -36,20 +51,19 @@ fn out_of(emitted: &Emitted) -> usize
 fn push_row<'a>(
     all: &mut [RowRefs<'a>],
     first: usize,
-    place: &Place,
+    at: &RecordAt<'_, 'a>,
     number: usize,
-    given: &Given<'a>,
     emitted: Emitted,
 ) -> Result<(), AllocError>
-    requires place { IsPlace place.now }
+    requires place { IsPlace at.now.place.now }
     requires few { number < MAX_EMISSIONS }
-    ensures { OnOk result (Adds first all.old all.new (λ output here. here ≡ (if (emission_in given.now emitted).out == output then row_of place.now number (emission_in given.now emitted) ∷ [] else []))) }
+    ensures { OnOk result (Adds first all.old all.new (λ output here. here ≡ (if (emission_in at.now.given.now emitted).out == output then row_of at.now.place.now number (emission_in at.now.given.now emitted) ∷ [] else []))) }
 {
     let out = out_of(&emitted);
     if out < first || out - first >= all.len() {
         return Ok(());
     }
-    all[out - first].push(place, number, given, emitted)
+    all[out - first].push(at.place, number, at.given, emitted)
 }
 
 /// Adds the rows of what a program emitted for a record to their outputs. Nothing is left in the list, but its
@@ -58,13 +72,12 @@ fn push_row<'a>(
 fn push_rows<'a>(
     all: &mut [RowRefs<'a>],
     first: usize,
-    place: &Place,
-    given: &Given<'a>,
+    at: &RecordAt<'_, 'a>,
     list: &mut Vec<Emitted>,
 ) -> Result<(), AllocError>
-    requires place { IsPlace place.now }
+    requires place { IsPlace at.now.place.now }
     requires few { length list.old.items ≤ MAX_EMISSIONS }
-    ensures rows { OnOk result (Adds first all.old all.new (λ output here. here ≡ rows_to output place.now 0 (emissions_in given.now list.old.items))) }
+    ensures rows { OnOk result (Adds first all.old all.new (λ output here. here ≡ rows_to output at.now.place.now 0 (emissions_in at.now.given.now list.old.items))) }
     ensures none { list.new.items ≡ [] }
 {
     if list.is_empty() {
@@ -72,7 +85,7 @@ fn push_rows<'a>(
     }
     let mut number = 0;
     for emitted in list.drain(..) {
-        push_row(all, first, place, number, given, emitted)?;
+        push_row(all, first, at, number, emitted)?;
         number += 1;
     }
     Ok(())
@@ -84,18 +97,17 @@ fn push_rows<'a>(
 pub(crate) fn push_outcome<'a>(
     all: &mut [RowRefs<'a>],
     first: usize,
-    place: &Place,
-    given: &Given<'a>,
+    at: &RecordAt<'_, 'a>,
     ending: Ending,
     emitted: &mut EmittedList,
 ) -> Result<Fate, AllocError>
-    requires { IsPlace place.now }
-    ensures { IfOk result (λ fate. (fate ≡ fate_of (outcome_with ending (emissions_in given.now emitted.old)))
-        × Adds first all.old all.new (λ output here. here ≡ rows_of output place.now (outcome_with ending (emissions_in given.now emitted.old)))) }
+    requires { IsPlace at.now.place.now }
+    ensures { IfOk result (λ fate. (fate ≡ fate_of (outcome_with ending (emissions_in at.now.given.now emitted.old)))
+        × Adds first all.old all.new (λ output here. here ≡ rows_of output at.now.place.now (outcome_with ending (emissions_in at.now.given.now emitted.old)))) }
 {
     match ending {
         Ending::Kept => {
-            push_rows(all, first, place, given, &mut emitted.list)?;
+            push_rows(all, first, at, &mut emitted.list)?;
             Ok(Fate::Kept)
         }
         Ending::Rejected(code) => Ok(Fate::Rejected(code)),
@@ -109,16 +121,15 @@ pub(crate) fn push_outcome<'a>(
 fn push_ended<'a>(
     all: &mut [RowRefs<'a>],
     first: usize,
-    place: &Place,
-    given: &Given<'a>,
+    at: &RecordAt<'_, 'a>,
     block: &mut Block,
     index: usize,
     emitted: &mut EmittedList,
 ) -> Result<Fate, AllocError>
-    requires place { IsPlace place.now }
+    requires place { IsPlace at.now.place.now }
     requires within { index < length block.old }
-    ensures pushed { (ended : Ended) → slice_get block.old index ≡ Some ended → IfOk result (λ fate. (fate ≡ fate_of (outcome_in given.now ended))
-        × Adds first all.old all.new (λ output here. here ≡ rows_of output place.now (outcome_in given.now ended))) }
+    ensures pushed { (ended : Ended) → slice_get block.old index ≡ Some ended → IfOk result (λ fate. (fate ≡ fate_of (outcome_in at.now.given.now ended))
+        × Adds first all.old all.new (λ output here. here ≡ rows_of output at.now.place.now (outcome_in at.now.given.now ended))) }
     ensures others { (other : ℕ) → other ≢ index → slice_get block.new other ≡ slice_get block.old other }
     ensures length { length block.new ≡ length block.old }
 {
@@ -127,40 +138,41 @@ fn push_ended<'a>(
     }
     match block.kept_alone(index) {
         Some(out) => {
-            push_row(all, first, place, 0, given, Emitted::Given { out })?;
+            push_row(all, first, at, 0, Emitted::Given { out })?;
             Ok(Fate::Kept)
         }
         None => {
             let ending = block.take(index, emitted);
-            let fate = push_outcome(all, first, place, given, ending, emitted)?;
+            let fate = push_outcome(all, first, at, ending, emitted)?;
             Ok(fate)
         }
     }
 }
 
-/// Adds the rows of the records of a block, each at its place, by the outcomes of its last run, and
-/// counts the records: those of a batch from number `from` on.
+/// Adds the rows of the records of a block by the outcomes of its last run, and counts the records.
 pub(crate) fn push_outcomes<'a>(
     first: usize,
-    places: &[Place],
-    logged: &'a LoggedBatch,
-    from: usize,
+    records: &BlockRecords<'_, 'a>,
     block: &mut Block,
     emitted: &mut EmittedList,
     all: &mut [RowRefs<'a>],
     counts: &mut Counts,
 ) -> Result<(), AllocError>
-    requires places { length places.now ≡ length block.old }
-    requires records { from + length block.old ≤ length logged.now.records }
-    requires ranges { (k : ℕ) (p : Place) → k < length places.now → IsPlace (get_or places.now k p) }
+    requires places { length records.now.places.now ≡ length block.old }
+    requires records { records.now.from + length block.old ≤ length records.now.logged.now.records }
+    requires ranges { (k : ℕ) (p : Place) → k < length records.now.places.now → IsPlace (get_or records.now.places.now k p) }
     requires few { counts.old.records + length block.old < 2 ^ 63 }
-    ensures rows { OnOk result (Adds first all.old all.new (λ output here. here ≡ rows_of_each output places.now (outcomes_of (records_from from (length block.old) logged.now.records) block.old))) }
-    ensures counts { OnOk result (AreFatesMore (map fate_of (outcomes_of (records_from from (length block.old) logged.now.records) block.old)) counts.old counts.new) }
+    ensures rows { OnOk result (Adds first all.old all.new (λ output here. here ≡ rows_of_each output records.now.places.now (outcomes_of (records_from records.now.from (length block.old) records.now.logged.now.records) block.old))) }
+    ensures counts { OnOk result (AreFatesMore (map fate_of (outcomes_of (records_from records.now.from (length block.old) records.now.logged.now.records) block.old)) counts.old counts.new) }
 {
-    let _few = logged.len();
-    for index in 0..places.len() {
-        let given = Given::new(logged, from + index);
-        let fate = push_ended(all, first, &places[index], &given, block, index, emitted)?;
+    let _few = records.logged.len();
+    for index in 0..records.places.len() {
+        let given = Given::new(records.logged, records.from + index);
+        let at = RecordAt {
+            place: &records.places[index],
+            given: &given,
+        };
+        let fate = push_ended(all, first, &at, block, index, emitted)?;
         counts.add(fate)?;
     }
     Ok(())

@@ -6,7 +6,7 @@
 //! records FILE` list those of a file, and `klog commands` lists the calls.
 #![tactic(auto)]
 
-use commands::{Files, Status, command, tell_no_words};
+use commands::{Files, Host, Status, command, tell_no_words};
 use std::alloc::Global;
 use std::io::{BufWriter, IsTerminal, Stdout, Write};
 use std::path::PathBuf;
@@ -180,20 +180,14 @@ fn called<T: Threads + Wait + Sync>(threads: &T, rt: &HostRuntime) -> io::Result
     for word in env::args(rt)?.skip(1) {
         words.push(word)?;
     }
-    let mut files = files_for(rt, &words);
-    let mut stdout = BufWriter::new(alloc, rt.stdout())?;
-    let mut stderr = rt.stderr();
-    let mut stdin = rt.stdin();
-    let status = command(
-        threads,
+    let mut host = Host {
         alloc,
-        &words,
-        &mut files,
-        &mut stdin,
-        &mut stdout,
-        &mut stderr,
-    );
-    Ok(status)
+        files: files_for(rt, &words),
+        stdin: rt.stdin(),
+        stdout: BufWriter::new(alloc, rt.stdout())?,
+        stderr: rt.stderr(),
+    };
+    Ok(command(threads, &mut host, &words))
 }
 
 fn main(rt: HostRuntime) -> ExitCode {

@@ -1,3 +1,4 @@
 mod AsBox
 mod Ranges
 mod Sources
+pub mod Walks

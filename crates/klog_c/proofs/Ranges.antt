@@ -1,6 +1,6 @@
 -- What a run is given is in the ranges of the machine's, and what comes of it.
 use Rattle.std.proofs.Common.{◌≡◌, ℕ, zero, suc, Bool, true, false, not, nat_le, if◌then◌else◌, List, length, ◌≤◌}
-use Rattle.std.proofs.Common.{Option, Some, None, Result, Ok, Err, IfOk, IfSome, inr, arith}
+use Rattle.std.proofs.Common.{Option, Result, Ok, Err, IfOk, IfSome, inr, arith}
 use mathlib.Core.Path.{refl, sym, subst, ◌∙◌}
 use Rattle.std.specs.Str.{is_utf8}
 use Rattle.std.proofs.lemmas.Str.{IsUtf8-from_is_utf8}
@@ -85,32 +85,32 @@ given_parts zero wanted given is = (refl, is.1)
 given_parts (suc fault) wanted given is = absurd (cc (is))
 
 -- what is asked of a run's record
-pub given_is : (held : Option (List Header)) (asked : Asked) (key value : List ℕ) (given : Result Record ℕ) →
+pub given_is : (held : Result (List Header) ℕ) (asked : Asked) (key value : List ℕ) (given : Result Record ℕ) →
     GivesRecord held asked key value given → IfOk given (λ x. RecordFits x × IsPlace (place_of asked))
-given_is None asked key value (Ok given) is = absurd (cc (is))
-given_is None asked key value (Err number) is = tt
-given_is (Some headers) asked key value (Ok given) is =
+given_is (Err fault) asked key value (Ok given) is = absurd (cc (is))
+given_is (Err fault) asked key value (Err number) is = tt
+given_is (Ok headers) asked key value (Ok given) is =
     let parts = given_parts (run_fault asked key value) (record_of asked key value headers) given is in
     (parts.1, place_is asked key value parts.0)
-given_is (Some headers) asked key value (Err number) is = tt
+given_is (Ok headers) asked key value (Err number) is = tt
 
 -- a run on the record of what C gives
 ran_unless : (fault : ℕ) (program : Program) (place : Place) (wanted : Record) (given : Result Record ℕ)
     (before after : Option Object) (number : ℕ) → RecordUnless fault wanted given →
-    RunsGiven (Some program) place given before after number →
+    RunsGiven (Ok program) place given before after number →
     RunsUnless fault program (record { given = wanted; place = place }) before after number
 ran_unless zero program place wanted (Ok given) before after number is runs =
     subst (λ (x : Record). RunsTo program (record { given = x; place = place }) before after number) is.0 runs
 ran_unless zero program place wanted (Err fault) before after number is runs = inr (runs.0, runs.1 ∙ is)
 ran_unless (suc fault) program place wanted given before after number is runs =
-    subst (λ (x : Result Record ℕ). RunsGiven (Some program) place x before after number) is runs
+    subst (λ (x : Result Record ℕ). RunsGiven (Ok program) place x before after number) is runs
 
-pub ran : (program : Option Program) (held : Option (List Header)) (asked : Asked) (key value : List ℕ)
+pub ran : (program : Result Program ℕ) (held : Result (List Header) ℕ) (asked : Asked) (key value : List ℕ)
     (given : Result Record ℕ) (before after : Option Object) (number : ℕ) → GivesRecord held asked key value given →
     RunsGiven program (place_of asked) given before after number → Runs program held asked key value before after number
-ran None held asked key value given before after number gives runs = runs
-ran (Some program) None asked key value given before after number gives runs =
-    subst (λ (x : Result Record ℕ). RunsGiven (Some program) (place_of asked) x before after number) gives runs
-ran (Some program) (Some headers) asked key value given before after number gives runs =
+ran (Err fault) held asked key value given before after number gives runs = runs
+ran (Ok program) (Err fault) asked key value given before after number gives runs =
+    subst (λ (x : Result Record ℕ). RunsGiven (Ok program) (place_of asked) x before after number) gives runs
+ran (Ok program) (Ok headers) asked key value given before after number gives runs =
     ran_unless (run_fault asked key value) program (place_of asked) (record_of asked key value headers) given before
     after number gives runs

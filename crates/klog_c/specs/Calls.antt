@@ -16,41 +16,41 @@ use Rattle.klog_c.specs.declared.object.Object.TheVariants as object
 
 -- ---- what a handle holds
 
--- the program in a handle; none where it contains nothing, or something else
-abbrev pub program_in : Option Object → Option Program
-program_in (Some (object.Program program)) = Some program
-program_in (Some (object.Outcome outcome)) = None
-program_in (Some (object.Text text)) = None
-program_in (Some (object.Batches made)) = None
-program_in (Some (object.Headers headers)) = None
-program_in None = None
+-- the program in a handle; KIND where it contains nothing, or something else
+abbrev pub program_in : Option Object → Result Program ℕ
+program_in (Some (object.Program program)) = Ok program
+program_in (Some (object.Outcome outcome)) = Err KIND
+program_in (Some (object.Text text)) = Err KIND
+program_in (Some (object.Batches made)) = Err KIND
+program_in (Some (object.Headers headers)) = Err KIND
+program_in None = Err KIND
 
--- the outcome in a handle; none where it contains nothing, or something else
-abbrev pub outcome_in : Option Object → Option Outcome
-outcome_in (Some (object.Program program)) = None
-outcome_in (Some (object.Outcome outcome)) = Some outcome
-outcome_in (Some (object.Text text)) = None
-outcome_in (Some (object.Batches made)) = None
-outcome_in (Some (object.Headers headers)) = None
-outcome_in None = None
+-- the outcome in a handle; else KIND
+abbrev pub outcome_in : Option Object → Result Outcome ℕ
+outcome_in (Some (object.Program program)) = Err KIND
+outcome_in (Some (object.Outcome outcome)) = Ok outcome
+outcome_in (Some (object.Text text)) = Err KIND
+outcome_in (Some (object.Batches made)) = Err KIND
+outcome_in (Some (object.Headers headers)) = Err KIND
+outcome_in None = Err KIND
 
--- the bytes of a text
-abbrev pub text_in : Option Object → Option (List ℕ)
-text_in (Some (object.Program program)) = None
-text_in (Some (object.Outcome outcome)) = None
-text_in (Some (object.Text text)) = Some (string_bytes text)
-text_in (Some (object.Batches made)) = None
-text_in (Some (object.Headers headers)) = None
-text_in None = None
+-- the bytes of the text in a handle; else KIND
+abbrev pub text_in : Option Object → Result (List ℕ) ℕ
+text_in (Some (object.Program program)) = Err KIND
+text_in (Some (object.Outcome outcome)) = Err KIND
+text_in (Some (object.Text text)) = Ok (string_bytes text)
+text_in (Some (object.Batches made)) = Err KIND
+text_in (Some (object.Headers headers)) = Err KIND
+text_in None = Err KIND
 
--- the headers that were added; to a handle of nothing none was
-abbrev pub headers_in : Option Object → Option (List Header)
-headers_in (Some (object.Program program)) = None
-headers_in (Some (object.Outcome outcome)) = None
-headers_in (Some (object.Text text)) = None
-headers_in (Some (object.Batches made)) = None
-headers_in (Some (object.Headers headers)) = Some headers
-headers_in None = Some []
+-- the headers that were added; to a handle of nothing none was, and of something else it is KIND
+abbrev pub headers_in : Option Object → Result (List Header) ℕ
+headers_in (Some (object.Program program)) = Err KIND
+headers_in (Some (object.Outcome outcome)) = Err KIND
+headers_in (Some (object.Text text)) = Err KIND
+headers_in (Some (object.Batches made)) = Err KIND
+headers_in (Some (object.Headers headers)) = Ok headers
+headers_in None = Ok []
 
 -- the number of an object's kind
 abbrev pub kind_of : Object → ℕ
@@ -112,19 +112,20 @@ Loads (Some program) before after place_before place number =
     ⊎ ((after ≡ before) × Refuses program place number)
 
 -- the other handle is filled with the same program, if there is one
-abbrev pub Shares : Option Program → Option Object → Option Object → ℕ → Type 0
-Shares None before after number = Fails KIND before after number
-Shares (Some program) before after number = Fills (object.Program program) before after number
+abbrev pub Shares : Result Program ℕ → Option Object → Option Object → ℕ → Type 0
+Shares (Err fault) before after number = Fails fault before after number
+Shares (Ok program) before after number = Fills (object.Program program) before after number
 
 -- ---- headers
 
 -- the handle holds one header more; or it is as it was, also where it holds something else
-abbrev pub AddsHeader : Option (List Header) → List ℕ → Bool → List ℕ → Option Object → Option Object → ℕ → Type 0
-AddsHeader None key is_null value before after number = Fails KIND before after number
-AddsHeader (Some held) key is_null value before after zero =
+abbrev pub AddsHeader :
+    Result (List Header) ℕ → List ℕ → Bool → List ℕ → Option Object → Option Object → ℕ → Type 0
+AddsHeader (Err fault) key is_null value before after number = Fails fault before after number
+AddsHeader (Ok held) key is_null value before after zero =
     (after ≡ Some (object.Headers (held ++ header_of key is_null value ∷ [])))
     × (header_fault (length held) key is_null value ≡ 0)
-AddsHeader (Some held) key is_null value before after (suc number) = (after ≡ before)
+AddsHeader (Ok held) key is_null value before after (suc number) = (after ≡ before)
     × (suc number ≢ MEMORY → suc number ≡ header_fault (length held) key is_null value)
 
 -- ---- runs
@@ -186,12 +187,12 @@ abbrev pub RunsUnless : ℕ → Program → Input → Option Object → Option O
 RunsUnless zero program input before after number = RunsTo program input before after number
 RunsUnless (suc fault) program input before after number = Fails (suc fault) before after number
 
--- the same, where there may be no program; `None` for the headers is a handle of something else
+-- the same, where there may be no program, or no headers
 abbrev pub Runs :
-    Option Program → Option (List Header) → Asked → List ℕ → List ℕ → Option Object → Option Object → ℕ → Type 0
-Runs None headers asked key value before after number = Fails KIND before after number
-Runs (Some program) None asked key value before after number = Fails KIND before after number
-Runs (Some program) (Some headers) asked key value before after number =
+    Result Program ℕ → Result (List Header) ℕ → Asked → List ℕ → List ℕ → Option Object → Option Object → ℕ → Type 0
+Runs (Err fault) headers asked key value before after number = Fails fault before after number
+Runs (Ok program) (Err fault) asked key value before after number = Fails fault before after number
+Runs (Ok program) (Ok headers) asked key value before after number =
     RunsUnless (run_fault asked key value) program (input_of asked key value headers) before after number
 
 -- ---- between the two
@@ -203,14 +204,14 @@ RecordUnless zero wanted (Err number) = number ≡ MEMORY
 RecordUnless (suc fault) wanted given = given ≡ Err (suc fault)
 
 -- the same of the record of a run
-abbrev pub GivesRecord : Option (List Header) → Asked → List ℕ → List ℕ → Result Record ℕ → Type 0
-GivesRecord None asked key value given = given ≡ Err KIND
-GivesRecord (Some headers) asked key value given =
+abbrev pub GivesRecord : Result (List Header) ℕ → Asked → List ℕ → List ℕ → Result Record ℕ → Type 0
+GivesRecord (Err fault) asked key value given = given ≡ Err fault
+GivesRecord (Ok headers) asked key value given =
     RecordUnless (run_fault asked key value) (record_of asked key value headers) given
 
 -- a run on a record, or on none, whose fault is then returned; there may be no program
-abbrev pub RunsGiven : Option Program → Place → Result Record ℕ → Option Object → Option Object → ℕ → Type 0
-RunsGiven None place given before after number = Fails KIND before after number
-RunsGiven (Some program) place (Err fault) before after number = Fails fault before after number
-RunsGiven (Some program) place (Ok given) before after number =
+abbrev pub RunsGiven : Result Program ℕ → Place → Result Record ℕ → Option Object → Option Object → ℕ → Type 0
+RunsGiven (Err fault) place given before after number = Fails fault before after number
+RunsGiven (Ok program) place (Err fault) before after number = Fails fault before after number
+RunsGiven (Ok program) place (Ok given) before after number =
     RunsTo program (record { given = given; place = place }) before after number

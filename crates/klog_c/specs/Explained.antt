@@ -3,16 +3,16 @@ use Rattle.std.specs.Prelude.{◌≡◌, ◌≢◌, ◌⊎◌, ℕ, Bool, List, 
 use Rattle.std.specs.{Global.Global, Prelude.String, Prelude.string_bytes, Prelude.if◌then◌else◌}
 use Rattle.machine_spec.specs.{Image.Program, declared.instruction.IsaFault.IsaFault}
 use Rattle.machine_spec.specs.declared.instruction.IsaFault.TheVariants as isa
-use Rattle.explain.specs.declared.{explanation.Explanation.Explanation, explanation.Refusal.Refusal, way.Extent.Extent}
-use Rattle.explain.specs.declared.way.Extent.TheVariants as extent
+use Rattle.explain.specs.declared.{explanation.Explanation.Explanation, explanation.Diagnosis.Diagnosis, way.Coverage.Coverage}
+use Rattle.explain.specs.declared.way.Coverage.TheVariants as extent
 use Rattle.explain.specs.{Explanations.ExplainsAs, ImageFaults.image_fault_text}
-use Rattle.klog_c.specs.declared.faults.TheConstants.{MEMORY, KIND}
+use Rattle.klog_c.specs.declared.faults.TheConstants.{MEMORY}
 use Rattle.c_outcomes.specs.{declared.numbers.TheConstants.RANGE, Outcomes.Copies}
 use Rattle.klog_c.specs.{declared.object.Object.Object, Calls.Fails, Calls.Fills}
 use Rattle.klog_c.specs.declared.object.Object.TheVariants as object
 
 -- the listed lines are the whole text where the program is accepted; else they begin it, and its refusal follows
-abbrev pub Continues : List ℕ → Option Refusal → List ℕ → Type 0
+abbrev pub Continues : List ℕ → Option Diagnosis → List ℕ → Type 0
 Continues lines None text = text ≡ lines
 Continues lines (Some refusal) text = (said : List ℕ) × (text ≡ lines ++ said)
 
@@ -26,12 +26,12 @@ IsTextOf image (Ok explanation) text = Continues (string_bytes explanation.lines
 IsTextOf image (Err fault) text = (fault ≢ isa.Memory) × EndsWith (image_fault_text image fault) text
 
 -- what `klog explain` prints of a program
-abbrev pub IsExplained : Extent → Program → List ℕ → Type 0
+abbrev pub IsExplained : Coverage → Program → List ℕ → Type 0
 IsExplained extent program text =
     (found : Result Explanation IsaFault) × ExplainsAs extent program found × IsTextOf program.image found text
 
 -- how much of a program is listed: the refused instruction with those on the way to it, or all
-abbrev pub extent_of : Bool → Extent
+abbrev pub extent_of : Bool → Coverage
 extent_of is_refused_alone = if is_refused_alone then extent.Refused else extent.All
 
 -- the handle is filled with what is explained of the program, if there is one; or memory ran out
@@ -43,6 +43,6 @@ Explained (Some program) is_refused_alone before after number =
     ⊎ Fails MEMORY before after number
 
 -- the text is at the front of the buffer, where it fits, and its length is told
-abbrev pub CopiesText : Option (List ℕ) → List ℕ → List ℕ → ℕ → ℕ → Type 0
-CopiesText None before after told number = (after ≡ before) × (number ≡ KIND)
-CopiesText (Some text) before after told number = (told ≡ length text) × Copies text before after number
+abbrev pub CopiesText : Result (List ℕ) ℕ → List ℕ → List ℕ → ℕ → ℕ → Type 0
+CopiesText (Err fault) before after told number = (after ≡ before) × (number ≡ fault)
+CopiesText (Ok text) before after told number = (told ≡ length text) × Copies text before after number

@@ -2,7 +2,8 @@
 use base.Fml.{Fml, ftrue}
 use base.Stored.{Coded}
 use denote.RawPtr.{Ptr}
-use Rattle.std.specs.Prelude.{Option, Some, None, Bool, true, false}
+use Rattle.std.specs.Prelude.{Option, Some, None, option_map, Bool, true, false}
+use Rattle.std.specs.declared.boxed.Box.{Box}
 use Rattle.std.specs.{Coded.coded_option, Box.Ownership.box_owns, Global.Global}
 use Rattle.std.specs.contracts.impls.GlobalAllocator.TheImpl.{ghosts}
 use Rattle.klog_c.specs.contracts.object.Object.{the_row}
@@ -24,3 +25,7 @@ object_coded = coded_option the_row.coded
 abbrev pub is_full : Option the_row.Denot → Bool
 is_full None = false
 is_full (Some x) = true
+
+-- what was taken out of a handle, or nothing
+abbrev pub taken : Option (Box the_row.Denot Global) → Option the_row.Denot
+taken object = option_map (λ object. object.value) object

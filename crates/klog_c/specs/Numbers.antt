@@ -5,8 +5,8 @@ use Rattle.verifier_spec.specs.declared.{fault.Check.Check, fault.LoadFault.Load
 use Rattle.verifier_spec.specs.declared.fault.LoadFault.TheVariants.{Isa, Verify}
 use Rattle.wire_spec.specs.declared.fault.BatchFault.{BatchFault}
 use Rattle.wire_spec.specs.declared.fault.BatchFault.TheVariants as fault
-use Rattle.batch_transform.specs.declared.fault.Stop.{Stop}
-use Rattle.batch_transform.specs.declared.fault.Stop.TheVariants as stop
+use Rattle.transform.specs.declared.memory.Stop.{Stop}
+use Rattle.transform.specs.declared.memory.Stop.TheVariants as stop
 
 -- the number of a fault of an image without code: I1 to I6 are 101 to 106; 1 where memory ran out
 abbrev pub isa_number : IsaFault → ℕ
@@ -73,6 +73,7 @@ batch_number fault.Memory = 1
 abbrev pub stop_number : Stop → ℕ
 stop_number (stop.Batch why) = batch_number why
 stop_number stop.Full = 7
+stop_number stop.Limit = 9
 stop_number stop.Memory = 1
 
 -- the record of its batch that a fault is about; 0 where it is about none
@@ -92,4 +93,5 @@ batch_record fault.Memory = 0
 abbrev pub stop_record : Stop → ℕ
 stop_record (stop.Batch why) = batch_record why
 stop_record stop.Full = 0
+stop_record stop.Limit = 0
 stop_record stop.Memory = 0

@@ -42,7 +42,8 @@ name_of n =
     if n == 5 then codes "a buffer is too short" else
     if n == 6 then codes "a null pointer, or a handle given twice" else
     if n == 7 then codes "the offsets of records are used up" else
-    if n == 8 then codes "a header's key is not UTF-8" else check_name n
+    if n == 8 then codes "a header's key is not UTF-8" else
+    if n == 9 then codes "the rows take more bytes than the limit" else check_name n
 
 -- an image's faults but its size's are at a slot, the verifier's at an instruction, and one of a batch's at a record
 abbrev pub place_word : ℕ → List ℕ

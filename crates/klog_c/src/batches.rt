@@ -4,12 +4,11 @@ ghost use Rattle.std.specs.Prelude.{◌≡◌};
 ghost use Rattle.klog_c.specs.Batches.{Transforms, TellsCounts, TellsReject, TellsOutput, CopiesOutput, batches_in};
 ghost use Rattle.klog_c.specs.Calls.{program_in};
 
-use crate::faults::KIND;
 use crate::handle::Handle;
-use crate::outputs::{
-    Counted, OutputTold, Reject, copy_output, tell_counts, tell_output, tell_reject,
-};
+use crate::object::{batches_of, program_of};
+use crate::outputs::{Counted, OutputTold, Reject, output_at, output_bytes, reject_at};
 use crate::transforming::{Source, Stopped, transform_into};
+use c_outcomes::{copy_found, tell};
 use std::alloc::Global;
 
 /// Runs a program on all record batches of some bytes, into a handle that holds nothing or batches. A
@@ -26,11 +25,9 @@ pub extern "C" fn klog_c_transform(
     ensures program { program.new.place.object ≡ program.old.place.object }
     ensures batches { Transforms (program_in program.old.place.object) source.now bytes.now batches.old.place.object batches.new.place.object stopped.new result }
 {
-    let Some(object) = program.take(alloc) else {
-        return KIND;
-    };
-    let number = transform_into(alloc, &object, source, bytes, batches, stopped);
-    program.put(alloc, object);
+    let object = program.take(alloc);
+    let number = transform_into(alloc, program_of(&object), source, bytes, batches, stopped);
+    program.put_back(alloc, object);
     number
 }
 
@@ -40,11 +37,9 @@ pub extern "C" fn klog_c_counts(alloc: Global, batches: &mut Handle, counts: &mu
     ensures batches { batches.new.place.object ≡ batches.old.place.object }
     ensures told { TellsCounts (batches_in batches.old.place.object) counts.new result }
 {
-    let Some(object) = batches.take(alloc) else {
-        return KIND;
-    };
-    let number = tell_counts(&object, counts);
-    batches.put(alloc, object);
+    let object = batches.take(alloc);
+    let number = tell(batches_of(&object), counts);
+    batches.put_back(alloc, object);
     number
 }
 
@@ -59,11 +54,9 @@ pub extern "C" fn klog_c_reject(
     ensures batches { batches.new.place.object ≡ batches.old.place.object }
     ensures told { TellsReject (batches_in batches.old.place.object) at reject.new result }
 {
-    let Some(object) = batches.take(alloc) else {
-        return KIND;
-    };
-    let number = tell_reject(&object, at, reject);
-    batches.put(alloc, object);
+    let object = batches.take(alloc);
+    let number = tell(reject_at(batches_of(&object), at), reject);
+    batches.put_back(alloc, object);
     number
 }
 
@@ -78,11 +71,9 @@ pub extern "C" fn klog_c_output(
     ensures batches { batches.new.place.object ≡ batches.old.place.object }
     ensures told { TellsOutput (batches_in batches.old.place.object) at output.new result }
 {
-    let Some(object) = batches.take(alloc) else {
-        return KIND;
-    };
-    let number = tell_output(&object, at, output);
-    batches.put(alloc, object);
+    let object = batches.take(alloc);
+    let number = tell(output_at(batches_of(&object), at), output);
+    batches.put_back(alloc, object);
     number
 }
 
@@ -98,10 +89,8 @@ pub extern "C" fn klog_c_output_batches(
     ensures batches { batches.new.place.object ≡ batches.old.place.object }
     ensures copied { CopiesOutput (batches_in batches.old.place.object) at buffer.old buffer.new result }
 {
-    let Some(object) = batches.take(alloc) else {
-        return KIND;
-    };
-    let number = copy_output(&object, at, buffer);
-    batches.put(alloc, object);
+    let object = batches.take(alloc);
+    let number = copy_found(output_bytes(batches_of(&object), at), buffer);
+    batches.put_back(alloc, object);
     number
 }

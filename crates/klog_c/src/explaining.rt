@@ -1,43 +1,34 @@
 //! Why the verifier accepts or refuses a program, as a text.
 
-ghost use Rattle.std.specs.Prelude.{◌≡◌, Some, IfOk, OnOk, string_bytes};
+ghost use Rattle.std.specs.Prelude.{◌≡◌, Some, IfOk, string_bytes};
 ghost use Rattle.explain.specs.ImageFaults.{image_fault_text as fault_lines};
 ghost use Rattle.machine_spec.specs.Image.{program_of};
-ghost use Rattle.klog_c.specs.Calls.{text_in, program_with};
+ghost use Rattle.c_outcomes.specs.Outcomes.{found};
+ghost use Rattle.klog_c.specs.Calls.{program_with};
 ghost use Rattle.klog_c.specs.Explained as definitions;
 
-use crate::faults::{KIND, MEMORY, RANGE};
+use crate::faults::{MEMORY, RANGE};
 use crate::filling::fill;
 use crate::handle::Handle;
 use crate::object::Object;
 use crate::working::table_with_number;
 use c_outcomes::copy;
-use explain::{Explanation, Extent, Refusal, explain_image, image_fault_text};
+use explain::{Coverage, Explanation, explain_image, image_fault_text};
 use machine_spec::{IsaFault, Table};
 use std::alloc::{AllocError, Global};
 
-/// Appends the fault of a program, what it is about and what to do.
-fn push_refusal(
-    alloc: Global,
-    text: &mut String,
-    refusal: Option<Refusal>,
-) -> Result<(), AllocError>
-    ensures { OnOk result (definitions.Continues (string_bytes text.old) refusal (string_bytes text.new)) }
-{
-    let Some(refusal) = refusal else {
-        return Ok(());
-    };
-    let said = format!(in alloc; "{refusal}\n")?;
-    text.push_str(&said)
-}
-
-/// The lines of an explanation, and its refusal, if there is one.
+/// The lines of an explanation, and its refusal, if there is one: a program's fault, what it is about
+/// and what to do.
 fn program_text(alloc: Global, explanation: Explanation) -> Result<String, AllocError>
     ensures { IfOk result (λ text. definitions.Continues (string_bytes explanation.lines) explanation.refusal (string_bytes text)) }
 {
     let Explanation { lines, refusal } = explanation;
     let mut text = lines;
-    push_refusal(alloc, &mut text, refusal)?;
+    let Some(refusal) = refusal else {
+        return Ok(text);
+    };
+    let said = format!(in alloc; "{refusal}\n")?;
+    text.push_str(&said)?;
     Ok(text)
 }
 
@@ -66,68 +57,43 @@ fn text_of(
     }
 }
 
-/// What is explained of the program of an image and a helper table, as a text.
-fn explained(
-    alloc: Global,
-    image: &[u8],
-    table: Table,
-    extent: Extent,
-) -> Result<String, AllocError>
-    ensures { IfOk result (λ text. definitions.IsExplained extent (program_of image.now table) (string_bytes text)) }
-{
-    let found = explain_image(alloc, image, table, extent);
-    text_of(alloc, image, found)
-}
-
-fn extent_of(is_refused_alone: bool) -> Extent
+fn extent_of(is_refused_alone: bool) -> Coverage
     ensures { result ≡ definitions.extent_of is_refused_alone }
 {
     if is_refused_alone {
-        Extent::Refused
+        Coverage::Refused
     } else {
-        Extent::All
+        Coverage::All
     }
 }
 
-/// Puts what is explained of the program of an image and a helper table into a handle.
-fn explain_program(
+/// Puts what is explained of the program of an image and a helper table, by its number, into a handle.
+pub(crate) fn explain_into(
     alloc: Global,
     image: &[u8],
-    table: Table,
+    number: u32,
     is_refused_alone: bool,
     text: &mut Handle,
 ) -> u32
-    ensures { definitions.Explained (Some (program_of image.now table)) is_refused_alone text.old.place.object text.new.place.object result }
+    ensures { definitions.Explained (program_with image.now number) is_refused_alone text.old.place.object text.new.place.object result }
 {
-    match explained(alloc, image, table, extent_of(is_refused_alone)) {
+    let Some(table) = table_with_number(number) else {
+        return RANGE;
+    };
+    let explanation = explain_image(alloc, image, table, extent_of(is_refused_alone));
+    match text_of(alloc, image, explanation) {
         Err(_) => MEMORY,
         Ok(found) => fill(alloc, text, Object::Text(found)),
     }
 }
 
-/// The same by the number of a helper table.
-pub(crate) fn explain_into(
-    alloc: Global,
-    image: &[u8],
-    table: u32,
-    is_refused_alone: bool,
-    text: &mut Handle,
-) -> u32
-    ensures { definitions.Explained (program_with image.now table) is_refused_alone text.old.place.object text.new.place.object result }
+/// Copies a text that was found, and tells its length.
+pub(crate) fn copy_text(text: Result<&str, u32>, buffer: &mut [u8], length: &mut usize) -> u32
+    ensures { definitions.CopiesText (found text.entry) buffer.old buffer.new length.new result }
 {
-    match table_with_number(table) {
-        None => RANGE,
-        Some(table) => explain_program(alloc, image, table, is_refused_alone, text),
-    }
-}
-
-/// Copies an object's text, and tells its length.
-pub(crate) fn copy_text(object: &Object, buffer: &mut [u8], length: &mut usize) -> u32
-    ensures { definitions.CopiesText (text_in (Some object.now)) buffer.old buffer.new length.new result }
-{
-    match object {
-        Object::Program(_) | Object::Outcome(_) | Object::Batches(_) | Object::Headers(_) => KIND,
-        Object::Text(text) => {
+    match text {
+        Err(fault) => fault,
+        Ok(text) => {
             *length = text.len();
             copy(text.as_bytes(), buffer)
         }

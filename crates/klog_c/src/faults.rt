@@ -3,9 +3,9 @@
 ghost use Rattle.std.specs.Prelude.{◌≡◌};
 ghost use Rattle.klog_c.specs.Numbers as definitions;
 
-use batch_transform::Stop;
 pub(crate) use c_outcomes::{OK, RANGE};
 use machine_spec::IsaFault;
+use transform::Stop;
 use verifier_spec::{Check, LoadFault, VerifyFault};
 use wire_spec::BatchFault;
 
@@ -24,17 +24,21 @@ pub(crate) const FULL: u32 = 7;
 /// A header's key is not UTF-8.
 pub(crate) const TEXT: u32 = 8;
 
-fn isa_number(fault: IsaFault) -> u32
-    ensures { result ≡ definitions.isa_number fault }
+/// The rows take more bytes than the caller's limit.
+pub(crate) const LIMIT: u32 = 9;
+
+/// The number of a fault of an image, and the slot that it is about; 0 where it is about none.
+fn isa_told(fault: IsaFault) -> (u32, usize)
+    ensures { result ≡ (definitions.isa_number fault, definitions.isa_place fault) }
 {
     match fault {
-        IsaFault::Size => 101,
-        IsaFault::Opcode(_) => 102,
-        IsaFault::Register(_) => 103,
-        IsaFault::Unused(_) => 104,
-        IsaFault::Wide(_) => 105,
-        IsaFault::NotInProfile(_) => 106,
-        IsaFault::Memory => MEMORY,
+        IsaFault::Size => (101, 0),
+        IsaFault::Opcode(slot) => (102, slot),
+        IsaFault::Register(slot) => (103, slot),
+        IsaFault::Unused(slot) => (104, slot),
+        IsaFault::Wide(slot) => (105, slot),
+        IsaFault::NotInProfile(slot) => (106, slot),
+        IsaFault::Memory => (MEMORY, 0),
     }
 }
 
@@ -60,92 +64,44 @@ fn check_number(check: Check) -> u32
     }
 }
 
-/// The number of a refusal: I1 to I6 are 101 to 106, V1 to V13 are 201 to 213.
-pub(crate) fn fault_number(fault: LoadFault) -> u32
-    ensures { result ≡ definitions.fault_number fault }
+/// The number of a refusal, and the slot or the instruction that it is about; 0 where it is about
+/// none. I1 to I6 are 101 to 106, V1 to V13 are 201 to 213.
+pub(crate) fn refusal_told(fault: LoadFault) -> (u32, usize)
+    ensures { result ≡ (definitions.fault_number fault, definitions.fault_place fault) }
 {
     match fault {
-        LoadFault::Isa(fault) => isa_number(fault),
-        LoadFault::Verify(fault) => check_number(fault.kind),
+        LoadFault::Isa(fault) => isa_told(fault),
+        LoadFault::Verify(VerifyFault { pc, kind }) => (check_number(kind), pc),
     }
 }
 
-fn isa_place(fault: IsaFault) -> usize
-    ensures { result ≡ definitions.isa_place fault }
+/// The number of a fault of a batch, and the record that it is about; 0 where it is about none.
+fn batch_told(fault: BatchFault) -> (u32, u32)
+    ensures { result ≡ (definitions.batch_number fault, definitions.batch_record fault) }
 {
     match fault {
-        IsaFault::Size => 0,
-        IsaFault::Opcode(slot) => slot,
-        IsaFault::Register(slot) => slot,
-        IsaFault::Unused(slot) => slot,
-        IsaFault::Wide(slot) => slot,
-        IsaFault::NotInProfile(slot) => slot,
-        IsaFault::Memory => 0,
+        BatchFault::Short => (301, 0),
+        BatchFault::Length => (302, 0),
+        BatchFault::TooLarge => (303, 0),
+        BatchFault::Magic => (304, 0),
+        BatchFault::Crc => (305, 0),
+        BatchFault::Attributes => (306, 0),
+        BatchFault::Count => (307, 0),
+        BatchFault::Record(place) => (308, place),
+        BatchFault::Timestamp => (309, 0),
+        BatchFault::Memory => (MEMORY, 0),
     }
 }
 
-/// The slot or the instruction that a refusal is about; 0 where it is about none.
-pub(crate) fn fault_place(fault: LoadFault) -> usize
-    ensures { result ≡ definitions.fault_place fault }
-{
-    match fault {
-        LoadFault::Isa(fault) => isa_place(fault),
-        LoadFault::Verify(VerifyFault { pc, kind: _ }) => pc,
-    }
-}
-
-fn batch_number(fault: BatchFault) -> u32
-    ensures { result ≡ definitions.batch_number fault }
-{
-    match fault {
-        BatchFault::Short => 301,
-        BatchFault::Length => 302,
-        BatchFault::TooLarge => 303,
-        BatchFault::Magic => 304,
-        BatchFault::Crc => 305,
-        BatchFault::Attributes => 306,
-        BatchFault::Count => 307,
-        BatchFault::Record(_) => 308,
-        BatchFault::Timestamp => 309,
-        BatchFault::Memory => MEMORY,
-    }
-}
-
-/// The number of what stops a transform: B1 to B9 are 301 to 309.
-pub(crate) fn stop_number(stop: Stop) -> u32
-    ensures { result ≡ definitions.stop_number stop }
+/// The number of what stops a transform, and the record of its batch that it is about; 0 where it is
+/// about none. B1 to B9 are 301 to 309.
+pub(crate) fn stop_told(stop: Stop) -> (u32, u32)
+    ensures { result ≡ (definitions.stop_number stop, definitions.stop_record stop) }
 {
     match stop {
-        Stop::Batch(fault) => batch_number(fault),
-        Stop::Full => FULL,
-        Stop::Memory => MEMORY,
-    }
-}
-
-fn batch_record(fault: BatchFault) -> u32
-    ensures { result ≡ definitions.batch_record fault }
-{
-    match fault {
-        BatchFault::Short => 0,
-        BatchFault::Length => 0,
-        BatchFault::TooLarge => 0,
-        BatchFault::Magic => 0,
-        BatchFault::Crc => 0,
-        BatchFault::Attributes => 0,
-        BatchFault::Count => 0,
-        BatchFault::Record(place) => place,
-        BatchFault::Timestamp => 0,
-        BatchFault::Memory => 0,
-    }
-}
-
-/// The record of its batch that a stop is about; 0 where it is about none.
-pub(crate) fn stop_record(stop: Stop) -> u32
-    ensures { result ≡ definitions.stop_record stop }
-{
-    match stop {
-        Stop::Batch(fault) => batch_record(fault),
-        Stop::Full => 0,
-        Stop::Memory => 0,
+        Stop::Batch(fault) => batch_told(fault),
+        Stop::Full => (FULL, 0),
+        Stop::Limit => (LIMIT, 0),
+        Stop::Memory => (MEMORY, 0),
     }
 }

@@ -22,13 +22,6 @@ fn kind_of(object: &Object) -> u32
     }
 }
 
-/// Whether a handle that holds one object may be filled with another.
-fn is_same_kind(held: &Object, object: &Object) -> bool
-    ensures { result ≡ definitions.takes (Some held.now) object.now }
-{
-    kind_of(held) == kind_of(object)
-}
-
 /// Puts an object into a handle that holds nothing or one of the same kind.
 fn fill_with(alloc: Global, handle: &mut Handle, object: Box<Object>) -> u32
     ensures { definitions.Fills object.value handle.old.place.object handle.new.place.object result }
@@ -37,7 +30,7 @@ fn fill_with(alloc: Global, handle: &mut Handle, object: Box<Object>) -> u32
         handle.put(alloc, object);
         return OK;
     };
-    if is_same_kind(&held, &object) {
+    if kind_of(&held) == kind_of(&object) {
         handle.put(alloc, object);
         OK
     } else {

@@ -1,8 +1,8 @@
 //! What C holds: a pointer to an object, or to none.
-ghost use Rattle.std.specs.Prelude.{◌≡◌, Some, None, IsSome, option_map};
-ghost use Rattle.klog_c.specs.Handles.{Held, object_coded, handle_owns, is_full};
+ghost use Rattle.std.specs.Prelude.{◌≡◌, Some, None, IsSome};
+ghost use Rattle.klog_c.specs.Handles.{Held, object_coded, handle_owns, is_full, taken};
 
-use crate::object::Object;
+use crate::object::{Object, Taken};
 use crate::parts::Parts;
 use std::alloc::Global;
 use std::marker::Model;
@@ -75,8 +75,8 @@ pub struct Handle {
 
 impl Handle {
     /// A handle of an object, or of nothing.
-    fn of(alloc: Global, object: Option<Box<Object>>) -> Handle
-        ensures { result.place.object ≡ option_map (λ object. object.value) object }
+    fn of(alloc: Global, object: Taken) -> Handle
+        ensures { result.place.object ≡ taken object }
     {
         match object {
             None => Handle {
@@ -91,8 +91,8 @@ impl Handle {
     }
 
     /// The object, if there is one.
-    fn into_box(self) -> Option<Box<Object>>
-        ensures { option_map (λ object. object.value) result ≡ self.place.object }
+    fn into_box(self) -> Taken
+        ensures { taken result ≡ self.place.object }
     {
         let Handle { place, full } = self;
         if !full {
@@ -103,8 +103,8 @@ impl Handle {
     }
 
     /// Takes the object out.
-    pub(crate) fn take(&mut self, alloc: Global) -> Option<Box<Object>>
-        ensures object { option_map (λ object. object.value) result ≡ self.old.place.object }
+    pub(crate) fn take(&mut self, alloc: Global) -> Taken
+        ensures object { taken result ≡ self.old.place.object }
         ensures left { self.new.place.object ≡ None }
     {
         mem::replace(self, Handle::of(alloc, None)).into_box()
@@ -116,20 +116,27 @@ impl Handle {
     {
         drop(mem::replace(self, Handle::of(alloc, Some(object))).into_box());
     }
+
+    /// Puts back what was taken out.
+    pub(crate) fn put_back(&mut self, alloc: Global, object: Taken)
+        requires { self.old.place.object ≡ None }
+        ensures { self.new.place.object ≡ taken object }
+    {
+        if let Some(object) = object {
+            self.put(alloc, object);
+        }
+    }
 }
 
 // A place goes to another thread with its object, which may go there.
 unsafe impl Send for Place {}
 
-fn sent<T: Send>(x: T) -> T
-    ensures { result ≡ x }
-{
-    x
-}
+fn is_send<T: Send>() {}
 
-/// A handle may go to another thread.
-pub(crate) fn may_cross(handle: Handle) -> Handle
-    ensures { result ≡ handle }
-{
-    sent(handle)
+fn is_sync<T: Sync>() {}
+
+/// A handle may go to another thread, and several threads may read its object at once.
+pub(crate) fn may_cross() {
+    is_send::<Handle>();
+    is_sync::<Object>()
 }

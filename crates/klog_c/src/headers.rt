@@ -1,6 +1,6 @@
 //! Headers that C collects for records.
 
-ghost use Rattle.std.specs.Prelude.{◌≡◌, Some, None, []};
+ghost use Rattle.std.specs.Prelude.{◌≡◌, Some, None, Ok, []};
 ghost use Rattle.klog_c.specs.Calls as definitions;
 
 use crate::faults::{KIND, OK};
@@ -35,7 +35,7 @@ pub(crate) fn add_first(
     is_null: bool,
 ) -> u32
     requires { handle.old.place.object ≡ None }
-    ensures { definitions.AddsHeader (Some []) key.now is_null value.now None handle.new.place.object result }
+    ensures { definitions.AddsHeader (Ok []) key.now is_null value.now None handle.new.place.object result }
 {
     let mut headers = RecordHeaders::new(alloc);
     let fault = headers.add(alloc, key, value, is_null);

@@ -11,7 +11,6 @@ mod filling;
 mod handle;
 mod headers;
 mod object;
-mod outcomes;
 mod outputs;
 mod parts;
 mod programs;

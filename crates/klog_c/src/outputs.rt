@@ -1,12 +1,11 @@
 //! What batches tell C.
 
-ghost use Rattle.std.specs.Prelude.{◌≡◌, Some, slice_get};
+ghost use Rattle.std.specs.Prelude.{◌≡◌};
+ghost use Rattle.c_outcomes.specs.Outcomes.{found, part_at};
 ghost use Rattle.klog_c.specs.Batches as definitions;
 
-use crate::faults::{KIND, OK, RANGE};
-use crate::object::Object;
-use batch_transform::{OutputBatches, Transformed};
-use c_outcomes::copy;
+use c_outcomes::{Telling, item_at};
+use transform::{OutputBatches, Transformed};
 
 /// How many batches a program was given, and what became of their records.
 #[repr(C)]
@@ -44,91 +43,61 @@ pub struct OutputTold {
     pub batches: usize,
 }
 
-fn counted_of(made: &Transformed) -> Counted
-    ensures { result ≡ definitions.counted_of made.now }
-{
-    Counted {
-        batches: made.batches,
-        records: made.counts.records(),
-        kept: made.counts.kept(),
-        codes: made.rejects.len(),
-        outputs: made.outputs.len(),
-    }
-}
+impl Telling<Transformed> for Counted {
+    ghost told_of = { definitions.counted_of };
 
-/// Tells what became of the records of an object's batches.
-pub(crate) fn tell_counts(object: &Object, told: &mut Counted) -> u32
-    ensures { definitions.TellsCounts (definitions.batches_in (Some object.now)) told.new result }
-{
-    match object {
-        Object::Program(_) | Object::Outcome(_) | Object::Text(_) | Object::Headers(_) => KIND,
-        Object::Batches(made) => {
-            *told = counted_of(made);
-            OK
+    fn told_of(made: &Transformed) -> Counted {
+        Counted {
+            batches: made.batches,
+            records: made.counts.records(),
+            kept: made.counts.kept(),
+            codes: made.rejects.len(),
+            outputs: made.outputs.len(),
         }
     }
 }
 
-fn tell_listed(rejects: &[(u64, u64)], number: usize, told: &mut Reject) -> u32
-    ensures { definitions.TellsListed (slice_get rejects.now number) told.new result }
-{
-    if number >= rejects.len() {
-        return RANGE;
-    }
-    let (code, records) = rejects[number];
-    *told = Reject { code, records };
-    OK
-}
+impl Telling<(u64, u64)> for Reject {
+    ghost told_of = { definitions.reject_of };
 
-/// Tells how many records of an object's batches a code rejected.
-pub(crate) fn tell_reject(object: &Object, number: usize, told: &mut Reject) -> u32
-    ensures { definitions.TellsReject (definitions.batches_in (Some object.now)) number told.new result }
-{
-    match object {
-        Object::Program(_) | Object::Outcome(_) | Object::Text(_) | Object::Headers(_) => KIND,
-        Object::Batches(made) => tell_listed(made.rejects.as_slice(), number, told),
+    fn told_of(listed: &(u64, u64)) -> Reject {
+        let (code, records) = *listed;
+        Reject { code, records }
     }
 }
 
-fn tell_one(outputs: &[OutputBatches], number: usize, told: &mut OutputTold) -> u32
-    ensures { definitions.TellsOne (slice_get outputs.now number) told.new result }
-{
-    if number >= outputs.len() {
-        return RANGE;
-    }
-    *told = OutputTold {
-        rows: outputs[number].rows,
-        length: outputs[number].bytes.len(),
-        batches: outputs[number].batches,
-    };
-    OK
-}
+impl Telling<OutputBatches> for OutputTold {
+    ghost told_of = { definitions.told_of };
 
-/// Tells of the batches of an output partition.
-pub(crate) fn tell_output(object: &Object, number: usize, told: &mut OutputTold) -> u32
-    ensures { definitions.TellsOutput (definitions.batches_in (Some object.now)) number told.new result }
-{
-    match object {
-        Object::Program(_) | Object::Outcome(_) | Object::Text(_) | Object::Headers(_) => KIND,
-        Object::Batches(made) => tell_one(made.outputs.as_slice(), number, told),
+    fn told_of(made: &OutputBatches) -> OutputTold {
+        OutputTold {
+            rows: made.rows,
+            length: made.bytes.len(),
+            batches: made.batches,
+        }
     }
 }
 
-fn copy_one(outputs: &[OutputBatches], number: usize, buffer: &mut [u8]) -> u32
-    ensures { definitions.CopiesOne (slice_get outputs.now number) buffer.old buffer.new result }
+/// A code of batches that were found, and how many records it rejected.
+pub(crate) fn reject_at(made: Result<&Transformed, u32>, number: usize) -> Result<&(u64, u64), u32>
+    ensures { found result ≡ definitions.reject_at (found made.entry) number }
 {
-    if number >= outputs.len() {
-        return RANGE;
-    }
-    copy(outputs[number].bytes.as_slice(), buffer)
+    item_at(made?.rejects.as_slice(), number)
 }
 
-/// Copies the batches of an output partition.
-pub(crate) fn copy_output(object: &Object, number: usize, buffer: &mut [u8]) -> u32
-    ensures { definitions.CopiesOutput (definitions.batches_in (Some object.now)) number buffer.old buffer.new result }
+/// An output partition of batches that were found.
+pub(crate) fn output_at(
+    made: Result<&Transformed, u32>,
+    number: usize,
+) -> Result<&OutputBatches, u32>
+    ensures { found result ≡ definitions.output_at (found made.entry) number }
 {
-    match object {
-        Object::Program(_) | Object::Outcome(_) | Object::Text(_) | Object::Headers(_) => KIND,
-        Object::Batches(made) => copy_one(made.outputs.as_slice(), number, buffer),
-    }
+    item_at(made?.outputs.as_slice(), number)
+}
+
+/// The bytes of an output partition's batches.
+pub(crate) fn output_bytes(made: Result<&Transformed, u32>, number: usize) -> Result<&[u8], u32>
+    ensures { found result ≡ part_at (λ output. output.bytes.items) (definitions.output_at (found made.entry) number) }
+{
+    Ok(output_at(made, number)?.bytes.as_slice())
 }

@@ -6,8 +6,8 @@ ghost use Rattle.klog_c.specs.Explained.{Explained, CopiesText};
 ghost use Rattle.klog_c.specs.Texts.{Writes, fault_text};
 
 use crate::explaining::{copy_text, explain_into};
-use crate::faults::KIND;
 use crate::handle::Handle;
+use crate::object::{program_of, text_of};
 use crate::texts::write_fault;
 use crate::working::{load_into, share_into};
 use std::alloc::Global;
@@ -50,11 +50,9 @@ pub extern "C" fn klog_c_share(alloc: Global, program: &mut Handle, other: &mut 
     ensures program { program.new.place.object ≡ program.old.place.object }
     ensures other { Shares (program_in program.old.place.object) other.old.place.object other.new.place.object result }
 {
-    let Some(object) = program.take(alloc) else {
-        return KIND;
-    };
-    let number = share_into(alloc, &object, other);
-    program.put(alloc, object);
+    let object = program.take(alloc);
+    let number = share_into(alloc, program_of(&object), other);
+    program.put_back(alloc, object);
     number
 }
 
@@ -85,10 +83,8 @@ pub extern "C" fn klog_c_text(
     ensures text { text.new.place.object ≡ text.old.place.object }
     ensures copied { CopiesText (text_in text.old.place.object) buffer.old buffer.new length.new result }
 {
-    let Some(object) = text.take(alloc) else {
-        return KIND;
-    };
-    let number = copy_text(&object, buffer, length);
-    text.put(alloc, object);
+    let object = text.take(alloc);
+    let number = copy_text(text_of(&object), buffer, length);
+    text.put_back(alloc, object);
     number
 }

@@ -14,12 +14,6 @@ use std::alloc::{AllocError, Global};
 use std::marker::Model;
 use wire_spec::{Header, Headers, MAX_HEADER_KEY, MAX_HEADER_VALUE, MAX_HEADERS};
 
-fn are_parts_short(key: &[u8], value: &[u8], is_null: bool) -> bool
-    ensures { result ≡ definitions.are_parts_short key.now is_null value.now }
-{
-    key.len() <= MAX_HEADER_KEY && is_part_fitting(is_null, value, MAX_HEADER_VALUE)
-}
-
 /// Whether the bytes are UTF-8.
 fn is_text(bytes: &[u8]) -> bool
     ensures { result ≡ is_utf8 bytes.now }
@@ -31,7 +25,7 @@ fn is_text(bytes: &[u8]) -> bool
 fn header_fault(count: usize, key: &[u8], value: &[u8], is_null: bool) -> u32
     ensures { result ≡ definitions.header_fault count key.now is_null value.now }
 {
-    if !are_parts_short(key, value, is_null) {
+    if key.len() > MAX_HEADER_KEY || !is_part_fitting(is_null, value, MAX_HEADER_VALUE) {
         LENGTH
     } else if !is_text(key) {
         TEXT

@@ -24,8 +24,5 @@ pub(crate) fn part_of(
     if is_null {
         return Ok(None);
     }
-    match Bytes::copy_from_slice(alloc, bytes) {
-        Ok(bytes) => Ok(Some(bytes)),
-        Err(error) => Err(error),
-    }
+    Ok(Some(Bytes::copy_from_slice(alloc, bytes)?))
 }

@@ -1,11 +1,12 @@
 //! What a run on one record is given.
 
-ghost use Rattle.std.specs.Prelude.{◌≡◌, Some, IfOk};
+ghost use Rattle.std.specs.Prelude.{◌≡◌, IfOk};
+ghost use Rattle.c_outcomes.specs.Outcomes.{found};
 ghost use Rattle.klog_c.specs.Calls as definitions;
 
-use crate::faults::{KIND, LENGTH, MEMORY, OK, RANGE};
+use crate::faults::{LENGTH, MEMORY, OK, RANGE};
 use crate::handle::Handle;
-use crate::object::Object;
+use crate::object::headers_of;
 use crate::record_headers::RecordHeaders;
 use crate::record_parts::{is_part_fitting, part_of};
 use kafka_record::share_headers;
@@ -53,20 +54,15 @@ fn is_value_null(nulls: u32) -> bool
     2 <= nulls
 }
 
-fn are_parts_fitting(asked: &Asked, key: &[u8], value: &[u8]) -> bool
-    ensures { result ≡ definitions.are_parts_fitting asked.now key.now value.now }
-{
-    is_part_fitting(is_key_null(asked.nulls), key, MAX_KEY)
-        && is_part_fitting(is_value_null(asked.nulls), value, MAX_VALUE)
-}
-
 /// The first fault of what a run is given, or 0.
 fn run_fault(asked: &Asked, key: &[u8], value: &[u8]) -> u32
     ensures { result ≡ definitions.run_fault asked.now key.now value.now }
 {
     if !is_in_range(asked) {
         RANGE
-    } else if !are_parts_fitting(asked, key, value) {
+    } else if !is_part_fitting(is_key_null(asked.nulls), key, MAX_KEY)
+        || !is_part_fitting(is_value_null(asked.nulls), value, MAX_VALUE)
+    {
         LENGTH
     } else {
         OK
@@ -98,10 +94,11 @@ fn checked_record(
     asked: &Asked,
     key: &[u8],
     value: &[u8],
-    headers: &RecordHeaders,
+    headers: Result<&RecordHeaders, u32>,
 ) -> Result<Record, u32>
-    ensures { definitions.GivesRecord (Some headers.now) asked.now key.now value.now result }
+    ensures { definitions.GivesRecord (found headers.entry) asked.now key.now value.now result }
 {
+    let headers = headers?;
     let fault = run_fault(asked, key, value);
     if fault != OK {
         return Err(fault);
@@ -109,21 +106,6 @@ fn checked_record(
     match record_of(alloc, asked, key, value, headers.headers()) {
         Ok(given) => Ok(given),
         Err(_) => Err(MEMORY),
-    }
-}
-
-fn record_with(
-    alloc: Global,
-    asked: &Asked,
-    key: &[u8],
-    value: &[u8],
-    object: &Object,
-) -> Result<Record, u32>
-    ensures { definitions.GivesRecord (definitions.headers_in (Some object.now)) asked.now key.now value.now result }
-{
-    match object {
-        Object::Program(_) | Object::Outcome(_) | Object::Text(_) | Object::Batches(_) => Err(KIND),
-        Object::Headers(headers) => checked_record(alloc, asked, key, value, headers),
     }
 }
 
@@ -139,9 +121,9 @@ pub(crate) fn given_record(
     ensures given { definitions.GivesRecord (definitions.headers_in headers.old.place.object) asked.now key.now value.now result }
 {
     let Some(object) = headers.take(alloc) else {
-        return checked_record(alloc, asked, key, value, &RecordHeaders::new(alloc));
+        return checked_record(alloc, asked, key, value, Ok(&RecordHeaders::new(alloc)));
     };
-    let given = record_with(alloc, asked, key, value, &object);
+    let given = checked_record(alloc, asked, key, value, headers_of(&object));
     headers.put(alloc, object);
     given
 }

@@ -2,18 +2,20 @@
 
 ghost use Rattle.std.specs.Prelude.{◌≡◌};
 ghost use Rattle.machine_spec.specs.Machine.{bytes_of};
+ghost use Rattle.c_outcomes.specs.Outcomes.{found};
 ghost use Rattle.klog_c.specs.Calls.{AddsHeader, Runs, program_in, outcome_in, headers_in};
 ghost use Rattle.klog_c.specs.Outcomes.{Tells, TellsAt, CopiesAt, TellsHeader, CopiesHeader};
 
-use crate::faults::KIND;
 use crate::handle::Handle;
 use crate::headers::{add_first, add_to};
-use crate::outcomes::{
-    copy_header_key, copy_header_value, copy_key, copy_value, tell, tell_emission, tell_header,
-};
+use crate::object::{outcome_of, program_of};
 use crate::running::{Asked, given_record, place_of};
 use crate::working::run_into;
-use c_outcomes::{Emitted, HeaderTold};
+use c_outcomes::{
+    Emitted, HeaderTold, OK, code_of, copy_found, emission_at, emissions_of, header_at,
+    header_key_at, header_value_at, key_at, tell, value_at,
+};
+use machine_spec::Outcome;
 use std::alloc::Global;
 
 /// Adds a header of a key and a value, which may be null, to a handle that holds nothing or headers,
@@ -53,13 +55,24 @@ pub extern "C" fn klog_c_run(
     ensures headers { headers.new.place.object ≡ headers.old.place.object }
     ensures outcome { Runs (program_in program.old.place.object) (headers_in headers.old.place.object) asked.now key.now value.now outcome.old.place.object outcome.new.place.object result }
 {
-    let Some(object) = program.take(alloc) else {
-        return KIND;
-    };
     let given = given_record(alloc, asked, key, value, headers);
-    let number = run_into(alloc, &object, given, &place_of(asked), outcome);
-    program.put(alloc, object);
+    let object = program.take(alloc);
+    let number = run_into(alloc, program_of(&object), given, &place_of(asked), outcome);
+    program.put_back(alloc, object);
     number
+}
+
+fn tell_code(outcome: Result<&Outcome, u32>, code: &mut u64, count: &mut usize) -> u32
+    ensures { Tells (found outcome.entry) code.new count.new result }
+{
+    match outcome {
+        Err(fault) => fault,
+        Ok(outcome) => {
+            *code = code_of(outcome);
+            *count = emissions_of(outcome).len();
+            OK
+        }
+    }
 }
 
 /// Tells what an outcome is: its reject code, 0 where the record is kept, and how many emissions it
@@ -74,11 +87,9 @@ pub extern "C" fn klog_c_outcome(
     ensures outcome { outcome.new.place.object ≡ outcome.old.place.object }
     ensures told { Tells (outcome_in outcome.old.place.object) code.new count.new result }
 {
-    let Some(object) = outcome.take(alloc) else {
-        return KIND;
-    };
-    let number = tell(&object, code, count);
-    outcome.put(alloc, object);
+    let object = outcome.take(alloc);
+    let number = tell_code(outcome_of(&object), code, count);
+    outcome.put_back(alloc, object);
     number
 }
 
@@ -94,16 +105,13 @@ pub extern "C" fn klog_c_emission(
     ensures outcome { outcome.new.place.object ≡ outcome.old.place.object }
     ensures told { TellsAt (outcome_in outcome.old.place.object) at emission.new result }
 {
-    let Some(object) = outcome.take(alloc) else {
-        return KIND;
-    };
-    let number = tell_emission(&object, at, emission);
-    outcome.put(alloc, object);
+    let object = outcome.take(alloc);
+    let number = tell(emission_at(outcome_of(&object), at), emission);
+    outcome.put_back(alloc, object);
     number
 }
 
-/// Copies the key of an emission of an outcome to the front of a buffer. A fault leaves the buffer
-/// as it was.
+/// Copies the key of an emission to the front of a buffer. A fault leaves the buffer as it was.
 #[unsafe(no_mangle)]
 pub extern "C" fn klog_c_emission_key(
     alloc: Global,
@@ -114,16 +122,13 @@ pub extern "C" fn klog_c_emission_key(
     ensures outcome { outcome.new.place.object ≡ outcome.old.place.object }
     ensures copied { CopiesAt (λ e. e.key) (outcome_in outcome.old.place.object) at buffer.old buffer.new result }
 {
-    let Some(object) = outcome.take(alloc) else {
-        return KIND;
-    };
-    let number = copy_key(&object, at, buffer);
-    outcome.put(alloc, object);
+    let object = outcome.take(alloc);
+    let number = copy_found(key_at(outcome_of(&object), at), buffer);
+    outcome.put_back(alloc, object);
     number
 }
 
-/// Copies the value of an emission of an outcome to the front of a buffer. A fault leaves the buffer
-/// as it was.
+/// Copies the value of an emission to the front of a buffer. A fault leaves the buffer as it was.
 #[unsafe(no_mangle)]
 pub extern "C" fn klog_c_emission_value(
     alloc: Global,
@@ -134,16 +139,13 @@ pub extern "C" fn klog_c_emission_value(
     ensures outcome { outcome.new.place.object ≡ outcome.old.place.object }
     ensures copied { CopiesAt (λ e. e.value) (outcome_in outcome.old.place.object) at buffer.old buffer.new result }
 {
-    let Some(object) = outcome.take(alloc) else {
-        return KIND;
-    };
-    let number = copy_value(&object, at, buffer);
-    outcome.put(alloc, object);
+    let object = outcome.take(alloc);
+    let number = copy_found(value_at(outcome_of(&object), at), buffer);
+    outcome.put_back(alloc, object);
     number
 }
 
-/// Tells of a header of an emission of an outcome, by their numbers from 0: how long its key and its
-/// value are.
+/// Tells how long the key and the value of an emission's header are, by their numbers from 0.
 #[unsafe(no_mangle)]
 pub extern "C" fn klog_c_emission_header(
     alloc: Global,
@@ -155,16 +157,13 @@ pub extern "C" fn klog_c_emission_header(
     ensures outcome { outcome.new.place.object ≡ outcome.old.place.object }
     ensures told { TellsHeader (outcome_in outcome.old.place.object) at header told.new result }
 {
-    let Some(object) = outcome.take(alloc) else {
-        return KIND;
-    };
-    let number = tell_header(&object, at, header, told);
-    outcome.put(alloc, object);
+    let object = outcome.take(alloc);
+    let number = tell(header_at(outcome_of(&object), at, header), told);
+    outcome.put_back(alloc, object);
     number
 }
 
-/// Copies the key of a header of an emission of an outcome to the front of a buffer. A fault leaves
-/// the buffer as it was.
+/// Copies a key of an emission's headers to the front of a buffer. A fault leaves it as it was.
 #[unsafe(no_mangle)]
 pub extern "C" fn klog_c_emission_header_key(
     alloc: Global,
@@ -176,16 +175,13 @@ pub extern "C" fn klog_c_emission_header_key(
     ensures outcome { outcome.new.place.object ≡ outcome.old.place.object }
     ensures copied { CopiesHeader (λ h. h.key) (outcome_in outcome.old.place.object) at header buffer.old buffer.new result }
 {
-    let Some(object) = outcome.take(alloc) else {
-        return KIND;
-    };
-    let number = copy_header_key(&object, at, header, buffer);
-    outcome.put(alloc, object);
+    let object = outcome.take(alloc);
+    let number = copy_found(header_key_at(outcome_of(&object), at, header), buffer);
+    outcome.put_back(alloc, object);
     number
 }
 
-/// Copies the value of a header of an emission of an outcome to the front of a buffer. A fault leaves
-/// the buffer as it was.
+/// Copies a value of an emission's headers to the front of a buffer. A fault leaves it as it was.
 #[unsafe(no_mangle)]
 pub extern "C" fn klog_c_emission_header_value(
     alloc: Global,
@@ -197,10 +193,8 @@ pub extern "C" fn klog_c_emission_header_value(
     ensures outcome { outcome.new.place.object ≡ outcome.old.place.object }
     ensures copied { CopiesHeader (λ h. bytes_of h.value) (outcome_in outcome.old.place.object) at header buffer.old buffer.new result }
 {
-    let Some(object) = outcome.take(alloc) else {
-        return KIND;
-    };
-    let number = copy_header_value(&object, at, header, buffer);
-    outcome.put(alloc, object);
+    let object = outcome.take(alloc);
+    let number = copy_found(header_value_at(outcome_of(&object), at, header), buffer);
+    outcome.put_back(alloc, object);
     number
 }

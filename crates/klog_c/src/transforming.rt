@@ -1,20 +1,21 @@
 //! Record batches through a program.
 
-ghost use Rattle.std.specs.Prelude.{◌≡◌, true, Some};
-ghost use Rattle.klog_c.specs.Calls.{program_in};
+ghost use Rattle.std.specs.Prelude.{◌≡◌, Ok};
+ghost use Rattle.c_outcomes.specs.Outcomes.{found};
 ghost use Rattle.klog_c.specs.Batches as definitions;
 
-use crate::faults::{KIND, RANGE, stop_number, stop_record};
+use crate::faults::{RANGE, stop_told};
 use crate::filling::fill;
 use crate::handle::Handle;
 use crate::object::Object;
-use batch_transform::{BatchPlace, Stop, transform_batches};
+use crate::shared::Shared;
 use item_rows::Origin;
 use log_item::Program;
 use std::alloc::Global;
+use transform::{BatchPlace, transform_batches};
 use wire_spec::TIMESTAMP_END;
 
-/// Where record batches are, and how many output partitions there are.
+/// Where record batches are, how many output partitions there are, and how many bytes their batches may take.
 #[repr(C)]
 #[derive(Clone, Copy)]
 pub struct Source {
@@ -24,6 +25,8 @@ pub struct Source {
     pub partition: usize,
     /// How many output partitions there are, 1 to 64.
     pub outputs: usize,
+    /// The most bytes that the batches of all output partitions take together.
+    pub limit: u64,
 }
 
 /// Where a transform stopped.
@@ -47,48 +50,8 @@ fn is_source(source: &Source) -> bool
         && source.outputs <= 64
 }
 
-fn origin_of(source: &Source) -> Origin
-    ensures { result ≡ definitions.origin_of source.now }
-{
-    Origin {
-        input: source.partition,
-        offset: source.offset,
-        outputs: source.outputs,
-    }
-}
-
-fn stopped_at(place: BatchPlace, stop: Stop) -> Stopped
-    ensures { result ≡ definitions.stopped_at place stop }
-{
-    Stopped {
-        batch: place.batch,
-        byte: place.byte,
-        place: stop_record(stop),
-    }
-}
-
-/// Puts what a program makes of batches from a place in range into a handle.
-fn transform_source(
-    alloc: Global,
-    program: &Program,
-    source: &Source,
-    bytes: &[u8],
-    batches: &mut Handle,
-    stopped: &mut Stopped,
-) -> u32
-    requires { definitions.is_source source.now ≡ true }
-    ensures { definitions.TransformsSource program.now source.now bytes.now batches.old.place.object batches.new.place.object stopped.new result }
-{
-    let mut place = BatchPlace { batch: 0, byte: 0 };
-    match transform_batches(alloc, program, &origin_of(source), bytes, &mut place) {
-        Ok(made) => fill(alloc, batches, Object::Batches(made)),
-        Err(stop) => {
-            *stopped = stopped_at(place, stop);
-            stop_number(stop)
-        }
-    }
-}
-
+/// Puts what a program makes of batches into a handle.
+#[tactic(auto, using(crate::proofs::Sources::stopped, crate::proofs::Sources::transformed))]
 fn transform_program(
     alloc: Global,
     program: &Program,
@@ -97,28 +60,45 @@ fn transform_program(
     batches: &mut Handle,
     stopped: &mut Stopped,
 ) -> u32
-    ensures { definitions.Transforms (Some program.now) source.now bytes.now batches.old.place.object batches.new.place.object stopped.new result }
+    ensures { definitions.Transforms (Ok program.now) source.now bytes.now batches.old.place.object batches.new.place.object stopped.new result }
 {
     if !is_source(source) {
         return RANGE;
     }
-    transform_source(alloc, program, source, bytes, batches, stopped)
+    let origin = Origin {
+        input: source.partition,
+        offset: source.offset,
+        outputs: source.outputs,
+    };
+    let mut place = BatchPlace { batch: 0, byte: 0 };
+    match transform_batches(alloc, program, &origin, bytes, source.limit, &mut place) {
+        Ok(made) => fill(alloc, batches, Object::Batches(made)),
+        Err(stop) => {
+            let (number, record) = stop_told(stop);
+            *stopped = Stopped {
+                batch: place.batch,
+                byte: place.byte,
+                place: record,
+            };
+            number
+        }
+    }
 }
 
-/// Puts what an object's program makes of batches into a handle.
+/// Puts what a program that was found makes of batches into a handle.
 pub(crate) fn transform_into(
     alloc: Global,
-    object: &Object,
+    program: Result<&Shared, u32>,
     source: &Source,
     bytes: &[u8],
     batches: &mut Handle,
     stopped: &mut Stopped,
 ) -> u32
-    ensures { definitions.Transforms (program_in (Some object.now)) source.now bytes.now batches.old.place.object batches.new.place.object stopped.new result }
+    ensures { definitions.Transforms (found program.entry) source.now bytes.now batches.old.place.object batches.new.place.object stopped.new result }
 {
-    match object {
-        Object::Outcome(_) | Object::Text(_) | Object::Batches(_) | Object::Headers(_) => KIND,
-        Object::Program(program) => {
+    match program {
+        Err(fault) => fault,
+        Ok(program) => {
             transform_program(alloc, program.program(), source, bytes, batches, stopped)
         }
     }

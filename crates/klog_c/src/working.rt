@@ -4,11 +4,12 @@ ghost use Rattle.std.specs.Prelude.{◌≡◌, Some, Ok, IfOk};
 ghost use Rattle.wire_spec.specs.RecordSpelling.{RecordFits};
 ghost use Rattle.machine_spec.specs.Image.{program_of};
 ghost use Rattle.machine_spec.specs.Meaning.{IsPlace};
+ghost use Rattle.c_outcomes.specs.Outcomes.{found};
 ghost use Rattle.klog_c.specs.Calls as definitions;
 ghost use Rattle.klog_c.specs.Numbers as numbers;
 ghost use Rattle.log_item.specs.Programs.{ProgramIs};
 
-use crate::faults::{KIND, MEMORY, RANGE, fault_number, fault_place};
+use crate::faults::{MEMORY, RANGE, refusal_told};
 use crate::filling::fill;
 use crate::handle::Handle;
 use crate::object::Object;
@@ -39,10 +40,7 @@ fn loaded(alloc: Global, image: &[u8], table: Table) -> Result<Shared, LoadFault
         return Err(LoadFault::Isa(IsaFault::Memory));
     };
     let program = Program::new(alloc, &image, table)?;
-    match Shared::new(alloc, program) {
-        Ok(shared) => Ok(shared),
-        Err(_) => Err(LoadFault::Isa(IsaFault::Memory)),
-    }
+    Shared::new(alloc, program).map_err(|_| LoadFault::Isa(IsaFault::Memory))
 }
 
 /// Tells the number of a refusal, and writes its place. Where memory ran out there is none.
@@ -50,106 +48,65 @@ fn tell_refusal(fault: LoadFault, place: &mut usize) -> u32
     ensures number { result ≡ numbers.fault_number fault }
     ensures place { definitions.TellsPlace fault place.old place.new result }
 {
-    let number = fault_number(fault);
+    let (number, at) = refusal_told(fault);
     if number != MEMORY {
-        *place = fault_place(fault);
+        *place = at;
     }
     number
 }
 
-/// Puts the program of an image and a helper table into a handle.
-fn load_program(
+/// Puts the program of an image and the helper table with a number into a handle.
+pub(crate) fn load_into(
     alloc: Global,
     image: &[u8],
-    table: Table,
+    number: u32,
     program: &mut Handle,
     place: &mut usize,
 ) -> u32
-    ensures { definitions.Loads (Some (program_of image.now table)) program.old.place.object program.new.place.object place.old place.new result }
+    ensures { definitions.Loads (definitions.program_with image.now number) program.old.place.object program.new.place.object place.old place.new result }
 {
+    let Some(table) = table_with_number(number) else {
+        return RANGE;
+    };
     match loaded(alloc, image, table) {
         Ok(shared) => fill(alloc, program, Object::Program(shared)),
         Err(fault) => tell_refusal(fault, place),
     }
 }
 
-/// The same by the number of a helper table.
-pub(crate) fn load_into(
-    alloc: Global,
-    image: &[u8],
-    table: u32,
-    program: &mut Handle,
-    place: &mut usize,
-) -> u32
-    ensures { definitions.Loads (definitions.program_with image.now table) program.old.place.object program.new.place.object place.old place.new result }
+/// Puts another owner of a program that was found into a handle.
+pub(crate) fn share_into(alloc: Global, program: Result<&Shared, u32>, other: &mut Handle) -> u32
+    ensures { definitions.Shares (found program.entry) other.old.place.object other.new.place.object result }
 {
-    match table_with_number(table) {
-        None => RANGE,
-        Some(table) => load_program(alloc, image, table, program, place),
-    }
-}
-
-/// Puts another owner of an object's program into a handle.
-pub(crate) fn share_into(alloc: Global, object: &Object, other: &mut Handle) -> u32
-    ensures { definitions.Shares (definitions.program_in (Some object.now)) other.old.place.object other.new.place.object result }
-{
-    match object {
-        Object::Outcome(_) | Object::Text(_) | Object::Batches(_) | Object::Headers(_) => KIND,
-        Object::Program(program) => match program.again() {
+    match program {
+        Err(fault) => fault,
+        Ok(program) => match program.again() {
             Err(_) => MEMORY,
             Ok(shared) => fill(alloc, other, Object::Program(shared)),
         },
     }
 }
 
-/// Puts what a program means on a record into a handle.
+/// Puts what a program means on a record into a handle, if there are both.
 #[tactic(auto, using(log_spec::proofs::FittingBatches::within_limits))]
-fn run_record(
-    alloc: Global,
-    program: &Program,
-    given: &Record,
-    place: &Place,
-    outcome: &mut Handle,
-) -> u32
-    requires fits { RecordFits given.now }
-    requires place { IsPlace place.now }
-    ensures { definitions.RunsGiven (Some program.now) place.now (Ok given.now) outcome.old.place.object outcome.new.place.object result }
-{
-    match program.run(alloc, given, place) {
-        Err(_) => MEMORY,
-        Ok(found) => fill(alloc, outcome, Object::Outcome(found)),
-    }
-}
-
-fn run_given(
-    alloc: Global,
-    program: &Program,
-    given: Result<Record, u32>,
-    place: &Place,
-    outcome: &mut Handle,
-) -> u32
-    requires { IfOk given (λ given. RecordFits given × IsPlace place.now) }
-    ensures { definitions.RunsGiven (Some program.now) place.now given outcome.old.place.object outcome.new.place.object result }
-{
-    match given {
-        Err(fault) => fault,
-        Ok(given) => run_record(alloc, program, &given, place, outcome),
-    }
-}
-
-/// Puts what an object's program means on a record, if there is one, into a handle.
 pub(crate) fn run_into(
     alloc: Global,
-    object: &Object,
+    program: Result<&Shared, u32>,
     given: Result<Record, u32>,
     place: &Place,
     outcome: &mut Handle,
 ) -> u32
     requires { IfOk given (λ given. RecordFits given × IsPlace place.now) }
-    ensures { definitions.RunsGiven (definitions.program_in (Some object.now)) place.now given outcome.old.place.object outcome.new.place.object result }
+    ensures { definitions.RunsGiven (found program.entry) place.now given outcome.old.place.object outcome.new.place.object result }
 {
-    match object {
-        Object::Outcome(_) | Object::Text(_) | Object::Batches(_) | Object::Headers(_) => KIND,
-        Object::Program(program) => run_given(alloc, program.program(), given, place, outcome),
+    match program {
+        Err(fault) => fault,
+        Ok(program) => match given {
+            Err(fault) => fault,
+            Ok(given) => match program.program().run(alloc, &given, place) {
+                Err(_) => MEMORY,
+                Ok(found) => fill(alloc, outcome, Object::Outcome(found)),
+            },
+        },
     }
 }

@@ -1,4 +1,3 @@
 pub mod Below
 pub mod Bits
 pub mod Runs
-pub mod Words

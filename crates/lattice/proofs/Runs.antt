@@ -1,5 +1,5 @@
 -- Runs of places in a set of stack places.
-use Rattle.std.proofs.Common.{◌≡◌, ℕ, zero, suc, ◌+◌, ◌-◌, ◌<◌, true, false, bit_or, refl, ap, ◌∙◌, arith, sub-one}
+use Rattle.std.proofs.Common.{◌≡◌, ℕ, zero, suc, ◌+◌, ◌-◌, ◌<◌, true, false, bit_or, refl, arith, sub-one, add-one}
 use Rattle.std.specs.Int.Bits.{or_zero_r}
 use Rattle.verifier_spec.specs.{declared.state.StackSet.StackSet, Checks.are_set}
 use Rattle.verifier_spec.specs.StackSets.{is_set, with_place, with_places}
@@ -16,8 +16,7 @@ are_set_not set place zero more first = absurd (omega arith)
 are_set_not set place (suc count) more first = rw first refl
 
 pub are_set_none : (set : StackSet) (place count : ℕ) → count ≡ 0 → are_set set place count ≡ true
-are_set_none set place zero none = refl
-are_set_none set place (suc count) none = absurd (omega arith)
+are_set_none set place count none = rw none
 
 -- ---- places that are added
 
@@ -30,16 +29,11 @@ with_none set place = refl
 -- `count` places and the next one
 next_place : (set : StackSet) (place count : ℕ) →
     with_places set place (suc count) ≡ with_place (with_places set place count) (place + count)
-next_place set place zero =
-    let e : place ≡ place + 0 = omega arith in
-    ap (with_place set) e
+next_place set place zero = let e : place + 0 ≡ place = omega arith in rw e
 next_place set place (suc count) =
-    let e : (place + 1) + count ≡ place + suc count = omega arith in
-    next_place (with_place set place) (place + 1) count
-    ∙ ap (with_place (with_places (with_place set place) (place + 1) count)) e
+    let e : place + suc count ≡ (place + 1) + count = omega arith in
+    rw e (next_place (with_place set place) (place + 1) count)
 
 pub with_next : (set : StackSet) (place count : ℕ) →
     with_places set place (count + 1) ≡ with_place (with_places set place count) (place + count)
-with_next set place count =
-    let e : count + 1 ≡ suc count = omega arith in
-    ap (with_places set place) e ∙ next_place set place count
+with_next set place count = rw add-one (next_place set place count)

@@ -12,20 +12,16 @@ use Rattle.machine_spec.specs.{declared.instruction.Region.Region, declared.inst
 use Rattle.machine_spec.specs.{declared.helper.Helper.Helper, declared.outcome.Emission.Emission, Summaries.summary_of}
 use Rattle.machine_spec.specs.{declared.summary.Direction.TheVariants.Read, Meaning.Reaches}
 use Rattle.machine_spec.specs.declared.instruction.Region.TheVariants as region
-use Rattle.machine_spec.specs.declared.instruction.Instruction.TheVariants.{Move, Compute, Load, Unary, Store, JumpIf}
-use Rattle.machine_spec.specs.declared.instruction.Instruction.TheVariants.{Jump, Wide, Call, Exit}
-use Rattle.machine_spec.specs.declared.helper.Helper.TheVariants.{LoadValue, LoadKey, EmitRecord, EmitValue, Emit}
-use Rattle.machine_spec.specs.declared.helper.Helper.TheVariants.{EmitNull, Offset, Timestamp, Partition, HeaderCount}
-use Rattle.machine_spec.specs.declared.helper.Helper.TheVariants.{HeaderKey, HeaderValue}
-use Rattle.machine_spec.specs.Image.{Program, form_at, slot_count}
-use Rattle.machine_spec.specs.Values.{Value, Nothing, Number, Address}
-use Rattle.machine_spec.specs.Machine.{Input, State, bytes_of, length_of, byte_in, bytes_from, bytes_read, bytes_at}
-use Rattle.machine_spec.specs.Machine.{named_access, signature_of, helper_of, number_held, emit_code, emitted_after}
-use Rattle.machine_spec.specs.Machine.{whole_record, bare_record, effect_of, state_after_call, state_after}
-use Rattle.machine_spec.specs.Traps.{is_in_region, names_wrongly, is_wrong_argument, calls_wrongly, arguments_of, traps}
-use Rattle.machine_spec.specs.Traps.{trap_of, trap_at}
-use Rattle.machine_spec.specs.declared.instruction.Trap.TheVariants as trap
-use Rattle.machine_spec.proofs.{FirstOf.none_hold, Helpers.names_parts}
+use Rattle.machine_spec.specs.declared.instruction.Instruction.TheVariants.{Call}
+use Rattle.machine_spec.specs.declared.helper.Helper.TheVariants.{EmitRecord, EmitValue, Emit, EmitNull}
+use Rattle.machine_spec.specs.Image.{Program}
+use Rattle.machine_spec.specs.Values.{Value, Number, Address}
+use Rattle.machine_spec.specs.Machine.{Input, State, Access, bytes_of, length_of, byte_in, bytes_from, bytes_read}
+use Rattle.machine_spec.specs.Machine.{bytes_at, named_access, signature_of, helper_of, number_held, emit_code}
+use Rattle.machine_spec.specs.Machine.{emitted_after, whole_record, bare_record, effect_of, state_after_call}
+use Rattle.machine_spec.specs.Machine.{state_after}
+use Rattle.machine_spec.specs.Traps.{is_in_region, names_wrongly, is_wrong_argument, calls_wrongly, arguments_of}
+use Rattle.machine_spec.proofs.{Free.is_free, Helpers.names_parts}
 
 -- An emission is within the limits of a record: it goes to an output partition, its key and its value are short enough,
 -- and its headers are the record's or none.
@@ -46,10 +42,8 @@ abbrev code_by : Bool → Bool → Bool → ℕ
 code_by a b c = if a then 1 else if b then 2 else if c then 3 else 0
 
 no_refusal : (a b c : Bool) → code_by a b c ≡ 0 → (a ≡ false) × (b ≡ false) × (c ≡ false)
-no_refusal true b c e = absurd (omega arith)
-no_refusal false true c e = absurd (omega arith)
-no_refusal false false true e = absurd (omega arith)
 no_refusal false false false e = (refl, refl, refl)
+no_refusal _ _ _ e = absurd (omega arith)
 
 one_emission : (P : Emission → Type 0) (x : Emission) → P x → All P (x ∷ [])
 one_emission P x p zero d h = p
@@ -97,42 +91,31 @@ module _ (input : Input) (key : length (bytes_of input.given.key) ≤ MAX_KEY)
   few_bytes region.Key = omega (arith, key)
   few_bytes region.Value = value
 
+  abbrev read_from : Region → ℤ → ℕ → Access
+  read_from at start n = record { direction = Read; region = at; start = start; size = n }
+
   within_few : (stack : ℕ → Option ℕ) (at : Region) (start : ℤ) (n : ℕ) →
-      names_wrongly input stack (named_access Read (Address at start) (Number n)) ≡ false → n ≤ MAX_VALUE
+      names_wrongly input stack (Some (read_from at start n)) ≡ false → n ≤ MAX_VALUE
   within_few stack region.Stack start n h =
-      let inside = not-false (is_in_region start n STACK_SIZE)
-      (names_parts input stack (record { direction = Read; region = region.Stack; start = start; size = n })
-      h).1 in
-      within_is_few start n STACK_SIZE inside (omega arith)
-  within_few stack region.Key start n h =
-      let inside = not-false (is_in_region start n (length_of input region.Key))
-      (names_parts input stack (record { direction = Read; region = region.Key; start = start; size = n })
-      h).0 in
-      within_is_few start n (length_of input region.Key) inside (few_bytes region.Key)
-  within_few stack region.Value start n h =
-      let inside = not-false (is_in_region start n (length_of input region.Value))
-      (names_parts input stack (record { direction = Read; region = region.Value; start = start; size = n })
-      h).0 in
-      within_is_few start n (length_of input region.Value) inside (few_bytes region.Value)
+      let parts = names_parts input stack (read_from region.Stack start n) h in
+      within_is_few start n STACK_SIZE (not-false _ parts.1) (omega arith)
+  within_few stack at start n h =
+      let parts = names_parts input stack (read_from at start n) h in
+      within_is_few start n (length_of input at) (not-false _ parts.0) (few_bytes at)
 
   named_few : (stack : ℕ → Option ℕ) (address count : Value) →
       names_wrongly input stack (named_access Read address count) ≡ false →
       length (bytes_read input stack (named_access Read address count)) ≤ MAX_VALUE
-  named_few stack Nothing count h = absurd (false≢true (sym h))
-  named_few stack (Number n) count h = absurd (false≢true (sym h))
-  named_few stack (Address at start) Nothing h = absurd (false≢true (sym h))
-  named_few stack (Address at start) (Address other there) h = absurd (false≢true (sym h))
   named_few stack (Address at start) (Number n) h =
       subst (λ k. k ≤ MAX_VALUE) (sym (length_from (byte_in input stack at) (unsigned_abs start) n))
       (within_few stack at start n h)
+  named_few stack _ _ h = absurd (false≢true (sym h))
 
   -- ---- a call, an instruction and a run
 
   effect_emits : (helper : Helper) (s : State) →
       list_any (is_wrong_argument input s) (signature_of helper).arguments ≡ false → AreEmissions input s.emitted →
       AreEmissions input (effect_of helper input s).emitted
-  effect_emits LoadValue s right are = are
-  effect_emits LoadKey s right are = are
   effect_emits EmitRecord s right are =
       emitted_one s.emitted (whole_record input (number_held (s.registers 1))) value (inl refl) are
   effect_emits EmitValue s right are =
@@ -147,12 +130,7 @@ module _ (input : Input) (key : length (bytes_of input.given.key) ≤ MAX_KEY)
   effect_emits EmitNull s right are =
       emitted_one s.emitted (bare_record (number_held (s.registers 1)) input.given.key None) (omega arith) (inr refl)
       are
-  effect_emits Offset s right are = are
-  effect_emits Timestamp s right are = are
-  effect_emits Partition s right are = are
-  effect_emits HeaderCount s right are = are
-  effect_emits HeaderKey s right are = are
-  effect_emits HeaderValue s right are = are
+  effect_emits _ s right are = are
 
   call_emits : (helper : Option Helper) (s : State) →
       list_any (is_wrong_argument input s) (arguments_of helper) ≡ false → AreEmissions input s.emitted →
@@ -163,38 +141,15 @@ module _ (input : Input) (key : length (bytes_of input.given.key) ≤ MAX_KEY)
   instruction_emits : (i : Instruction) (s : State) → calls_wrongly input (summary_of i).call s ≡ false →
       AreEmissions input s.emitted → AreEmissions input (state_after i input s).emitted
   unfolding state_after
-  instruction_emits (Move width dst source) s right are = are
-  instruction_emits (Compute width operation dst source) s right are = are
-  instruction_emits (Load size extension dst base offset) s right are = are
-  instruction_emits (Unary change dst src) s right are = are
-  instruction_emits (Store size base offset source) s right are = are
-  instruction_emits (JumpIf width test dst source offset) s right are = are
-  instruction_emits (Jump distance) s right are = are
-  instruction_emits (Wide dst number) s right are = are
   instruction_emits (Call number) s right are = call_emits (helper_of number) s right are
-  instruction_emits Exit s right are = are
-
-  arguments_right : (program : Program) (s : State) (i : Instruction) → form_at program.image s.slot ≡ Some i →
-      trap_at program input s ≡ None → calls_wrongly input (summary_of i).call s ≡ false
-  unfolding trap_at
-  arguments_right program s i form no_trap =
-      from (nat_lt s.slot (slot_count program.image)) (subst
-      (λ o. (if nat_lt s.slot (slot_count program.image) then trap_of program input o s else Some trap.RanOff)
-      ≡ None) form no_trap)
-    where
-      from : (b : Bool) → (if b then trap_of program input (Some i) s else Some trap.RanOff) ≡ None →
-          calls_wrongly input (summary_of i).call s ≡ false
-      from true e = (none_hold (traps program input (summary_of i) s) e).1.1.1.1.1.1.1.1.1.1.0
-      from false e = absurd (cc e)
+  instruction_emits _ s right are = are
 
   -- the emissions of a run are within the limits at each state on its way
   pub run_emits : (program : Program) (n : ℕ) (s : State) → Reaches program input n s → AreEmissions input s.emitted
   run_emits program zero s reached =
-      subst (λ (t : State). AreEmissions input t.emitted) (sym reached)
-      (record { each = λ k d h. absurd (omega arith); few = omega arith })
+      rw reached (record { each = λ k d h. absurd (omega arith); few = omega arith })
   run_emits program (suc n) s reached =
       let step = reached.2 in
-      let before = run_emits program n reached.0 reached.1 in
-      subst (λ (t : State). AreEmissions input t.emitted) (sym step.next_is)
-      (instruction_emits step.instruction reached.0 (arguments_right program reached.0 step.instruction step.form
-      step.no_trap) before)
+      let right = (is_free program input reached.0 step.instruction step.no_trap step.form).argument in
+      rw step.next_is
+      (instruction_emits step.instruction reached.0 right (run_emits program n reached.0 reached.1))

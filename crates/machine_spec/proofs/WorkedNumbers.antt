@@ -13,239 +13,126 @@ use Rattle.machine_spec.specs.declared.operation.Change.TheVariants.{Negate, Ord
 use Rattle.machine_spec.specs.declared.operation.Test.TheVariants.{Equal, NotEqual, Greater, GreaterOrEqual, Less}
 use Rattle.machine_spec.specs.declared.operation.Test.TheVariants.{LessOrEqual, AnyBit, SignedGreater}
 use Rattle.machine_spec.specs.declared.operation.Test.TheVariants.{SignedGreaterOrEqual, SignedLess, SignedLessOrEqual}
-use Rattle.machine_spec.specs.Arithmetic.{limit, number_of, changed_number, holds}
-
--- the results of an operation on pairs of numbers, of changes of one number, and of a test on pairs
-abbrev results : Width → Operation → List (ℕ × ℕ) → List ℕ
-results width operation pairs = map (λ (p : ℕ × ℕ). number_of width operation p.0 p.1) pairs
-
-abbrev changes : List Change → ℕ → List ℕ
-changes list a = map (λ (c : Change). changed_number c a) list
-
-abbrev answers : Width → Test → List (ℕ × ℕ) → List Bool
-answers width test pairs = map (λ (p : ℕ × ℕ). holds width test p.0 p.1) pairs
+use Rattle.machine_spec.specs.Arithmetic.{number_of, changed_number, holds}
 
 -- the bits of -n
-abbrev minus : Width → ℕ → ℕ
-minus width n = limit width - n
+abbrev minus_32 : ℕ → ℕ
+minus_32 n = 2 ^ 32 - n
 
--- the bits of the least signed number, and of a 32-bit number with something in the upper half
-abbrev least : Width → ℕ
-least Bits32 = 2 ^ 31
-least Bits64 = 2 ^ 63
+abbrev minus_64 : ℕ → ℕ
+minus_64 n = 2 ^ 64 - n
 
+-- a 32-bit number with something in the upper half
 abbrev with_upper : ℕ → ℕ
 with_upper n = 2 ^ 32 + n
 
--- ---- sums, differences, products
-
-add_64 : results Bits64 Add ((7, 5) ∷ (2 ^ 64 - 1, 1) ∷ (2 ^ 64 - 1, 2 ^ 64 - 1) ∷ []) ≡ 12 ∷ 0 ∷ (2 ^ 64 - 2) ∷ []
-add_64 = refl
-
-add_32 : results Bits32 Add ((with_upper 7, 5) ∷ (2 ^ 32 - 1, 1) ∷ (7, minus Bits64 5) ∷ []) ≡ 12 ∷ 0 ∷ 2 ∷ []
-add_32 = refl
-
-sub_64 : results Bits64 Sub ((7, 5) ∷ (5, 7) ∷ (0, 2 ^ 64 - 1) ∷ (7, 0) ∷ []) ≡ 2 ∷ minus Bits64 2 ∷ 1 ∷ 7 ∷ []
-sub_64 = refl
-
-sub_32 : results Bits32 Sub ((with_upper 7, 5) ∷ (5, 7) ∷ (0, with_upper 1) ∷ (7, 0) ∷ []) ≡ 2 ∷ minus Bits32 2
-    ∷ minus Bits32 1 ∷ 7 ∷ []
-sub_32 = refl
-
-mul_64 : results Bits64 Mul ((7, 5) ∷ (2 ^ 63, 2) ∷ (2 ^ 64 - 1, 2 ^ 64 - 1) ∷ []) ≡ 35 ∷ 0 ∷ 1 ∷ []
-mul_64 = refl
-
-mul_32 : results Bits32 Mul ((with_upper 7, with_upper 5) ∷ (2 ^ 31, 2) ∷ (2 ^ 32 - 1, 2 ^ 32 - 1) ∷ []) ≡ 35 ∷ 0 ∷ 1
+-- operations in a width on two numbers, with what they give
+abbrev operations : List (Width × Operation × List (ℕ × ℕ × ℕ))
+operations =
+    -- sums, differences, products
+    (Bits64, Add, (7, 5, 12) ∷ (2 ^ 64 - 1, 1, 0) ∷ (2 ^ 64 - 1, 2 ^ 64 - 1, 2 ^ 64 - 2) ∷ [])
+    ∷ (Bits32, Add, (with_upper 7, 5, 12) ∷ (2 ^ 32 - 1, 1, 0) ∷ (7, minus_64 5, 2) ∷ [])
+    ∷ (Bits64, Sub, (7, 5, 2) ∷ (5, 7, minus_64 2) ∷ (0, 2 ^ 64 - 1, 1) ∷ (7, 0, 7) ∷ [])
+    ∷ (Bits32, Sub, (with_upper 7, 5, 2) ∷ (5, 7, minus_32 2) ∷ (0, with_upper 1, minus_32 1) ∷ (7, 0, 7) ∷ [])
+    ∷ (Bits64, Mul, (7, 5, 35) ∷ (2 ^ 63, 2, 0) ∷ (2 ^ 64 - 1, 2 ^ 64 - 1, 1) ∷ [])
+    ∷ (Bits32, Mul, (with_upper 7, with_upper 5, 35) ∷ (2 ^ 31, 2, 0) ∷ (2 ^ 32 - 1, 2 ^ 32 - 1, 1) ∷ [])
+    -- quotients and remainders
+    ∷ (Bits64, Div, (7, 2, 3) ∷ (7, 0, 0) ∷ (2 ^ 64 - 1, 1, 2 ^ 64 - 1) ∷ (5, minus_64 1, 0) ∷ [])
+    ∷ (Bits32, Div, (with_upper 7, 2, 3) ∷ (7, 0, 0) ∷ (7, 2 ^ 32, 0) ∷ (5, minus_64 1, 0) ∷ [])
+    ∷ (Bits64, Mod, (7, 2, 1) ∷ (7, 0, 7) ∷ (with_upper 7, 0, with_upper 7) ∷ (5, minus_64 1, 5) ∷ [])
+    ∷ (Bits32, Mod, (with_upper 7, 2, 1) ∷ (7, 0, 7) ∷ (with_upper 7, 0, 7) ∷ (with_upper 7, 2 ^ 32, 7) ∷ [])
+    ∷ (Bits64, SignedDiv, (7, 2, 3) ∷ (minus_64 7, 2, minus_64 3) ∷ (7, minus_64 2, minus_64 3) ∷ [])
+    ∷ (Bits64, SignedDiv, (minus_64 7, minus_64 2, 3) ∷ (2 ^ 63, minus_64 1, 2 ^ 63) ∷ (minus_64 7, 0, 0) ∷ [])
+    ∷ (Bits32, SignedDiv, (with_upper 7, 2, 3) ∷ (minus_32 7, 2, minus_32 3) ∷ (7, minus_64 2, minus_32 3) ∷ [])
+    ∷ (Bits32, SignedDiv, (minus_64 7, minus_32 2, 3) ∷ (2 ^ 31, minus_64 1, 2 ^ 31) ∷ (minus_32 7, 0, 0) ∷ [])
+    ∷ (Bits64, SignedMod, (7, 2, 1) ∷ (minus_64 7, 2, minus_64 1) ∷ (7, minus_64 2, 1) ∷ [])
+    ∷ (Bits64, SignedMod, (minus_64 7, minus_64 2, minus_64 1) ∷ (2 ^ 63, minus_64 1, 0) ∷ [])
+    ∷ (Bits64, SignedMod, (minus_64 7, 0, minus_64 7) ∷ [])
+    ∷ (Bits32, SignedMod, (with_upper 7, 2, 1) ∷ (minus_32 7, 2, minus_32 1) ∷ (7, minus_64 2, 1) ∷ [])
+    ∷ (Bits32, SignedMod, (minus_64 7, minus_32 2, minus_32 1) ∷ (2 ^ 31, minus_64 1, 0) ∷ [])
+    ∷ (Bits32, SignedMod, (minus_64 7, 0, minus_32 7) ∷ [])
+    -- bits
+    ∷ (Bits64, Or, (12, 10, 14) ∷ (2 ^ 63, 1, 2 ^ 63 + 1) ∷ [])
+    ∷ (Bits32, Or, (with_upper 12, 10, 14) ∷ (2 ^ 63, 2 ^ 31, 2 ^ 31) ∷ [])
+    ∷ (Bits64, And, (12, 10, 8) ∷ (2 ^ 64 - 1, with_upper 5, with_upper 5) ∷ [])
+    ∷ (Bits32, And, (with_upper 12, with_upper 10, 8) ∷ (2 ^ 64 - 1, with_upper 5, 5) ∷ [])
+    ∷ (Bits64, Xor, (12, 10, 6) ∷ (2 ^ 64 - 1, 1, 2 ^ 64 - 2) ∷ (7, 7, 0) ∷ [])
+    ∷ (Bits32, Xor, (with_upper 12, 10, 6) ∷ (2 ^ 64 - 1, 1, 2 ^ 32 - 2) ∷ (7, 7, 0) ∷ [])
+    -- shifts
+    ∷ (Bits64, LeftShift, (3, 2, 12) ∷ (3, 63, 2 ^ 63) ∷ (3, 65, 6) ∷ (3, minus_64 1, 2 ^ 63) ∷ [])
+    ∷ (Bits32, LeftShift, (with_upper 3, 2, 12) ∷ (3, 31, 2 ^ 31) ∷ (3, 33, 6) ∷ [])
+    ∷ (Bits32, LeftShift, (3, 2 ^ 32, 3) ∷ (3, minus_64 1, 2 ^ 31) ∷ [])
+    ∷ (Bits64, RightShift, (12, 2, 3) ∷ (2 ^ 64 - 1, 63, 1) ∷ (12, 65, 6) ∷ [])
+    ∷ (Bits32, RightShift, (with_upper 12, 2, 3) ∷ (2 ^ 64 - 1, 31, 1) ∷ (12, 33, 6) ∷ [])
+    ∷ (Bits64, ArithmeticRightShift, (12, 2, 3) ∷ (minus_64 12, 2, minus_64 3) ∷ (minus_64 1, 63, minus_64 1) ∷ [])
+    ∷ (Bits64, ArithmeticRightShift, (minus_64 12, 65, minus_64 6) ∷ (0x80000000, 33, 0) ∷ [])
+    ∷ (Bits32, ArithmeticRightShift, (with_upper 12, 2, 3) ∷ (minus_32 12, 2, minus_32 3) ∷ [])
+    ∷ (Bits32, ArithmeticRightShift, (minus_64 1, 31, minus_32 1) ∷ (0x80000000, 33, 0xc0000000) ∷ [])
     ∷ []
-mul_32 = refl
 
--- ---- quotients and remainders
+operations_hold : map (λ row. map (λ t. number_of row.0 row.1 t.0 t.1) row.2) operations
+    ≡ map (λ row. map (λ t. t.2) row.2) operations
+operations_hold = refl
 
-div_64 : results Bits64 Div ((7, 2) ∷ (7, 0) ∷ (2 ^ 64 - 1, 1) ∷ (5, minus Bits64 1) ∷ []) ≡ 3 ∷ 0 ∷ (2 ^ 64 - 1) ∷ 0
+-- changes of one number, with what they give
+abbrev changes : List (Change × List (ℕ × ℕ))
+changes =
+    (Negate Bits64, (7, minus_64 7) ∷ (0, 0) ∷ (minus_64 7, 7) ∷ (2 ^ 63, 2 ^ 63) ∷ [])
+    ∷ (Negate Bits32, (with_upper 7, minus_32 7) ∷ (2 ^ 32, 0) ∷ (minus_64 7, 7) ∷ (2 ^ 31, 2 ^ 31) ∷ [])
+    ∷ (Order LittleEndian swapped.Bits16, (0x1122334455667788, 0x7788) ∷ [])
+    ∷ (Order LittleEndian swapped.Bits32, (0x1122334455667788, 0x55667788) ∷ [])
+    ∷ (Order LittleEndian swapped.Bits64, (0x1122334455667788, 0x1122334455667788) ∷ [])
+    ∷ (Order BigEndian swapped.Bits16, (0x1122334455667788, 0x8877) ∷ [])
+    ∷ (Order BigEndian swapped.Bits32, (0x1122334455667788, 0x88776655) ∷ [])
+    ∷ (Order BigEndian swapped.Bits64, (0x1122334455667788, 0x8877665544332211) ∷ [])
+    ∷ (Order Swapped swapped.Bits16, (0x1122334455667788, 0x8877) ∷ [])
+    ∷ (Order Swapped swapped.Bits32, (0x1122334455667788, 0x88776655) ∷ [])
+    ∷ (Order Swapped swapped.Bits64, (0x1122334455667788, 0x8877665544332211) ∷ [])
+    ∷ (SignExtend Bits64 extended.Bits8, (0x80, 0xffffffffffffff80) ∷ (0x99aabbcc8899ff7f, 0x7f) ∷ [])
+    ∷ (SignExtend Bits64 extended.Bits16, (0x99aabbcc8899ff7f, 0xffffffffffffff7f) ∷ [])
+    ∷ (SignExtend Bits64 extended.Bits32, (0x99aabbcc8899ff7f, 0xffffffff8899ff7f) ∷ [])
+    ∷ (SignExtend Bits32 extended.Bits8, (0x80, 0xffffff80) ∷ (0x99aabbcc8899ff7f, 0x7f) ∷ [])
+    ∷ (SignExtend Bits32 extended.Bits16, (0x99aabbcc8899ff7f, 0xffffff7f) ∷ [])
     ∷ []
-div_64 = refl
 
-div_32 : results Bits32 Div ((with_upper 7, 2) ∷ (7, 0) ∷ (7, 2 ^ 32) ∷ (5, minus Bits64 1) ∷ []) ≡ 3 ∷ 0 ∷ 0 ∷ 0 ∷ []
-div_32 = refl
+changes_hold : map (λ row. map (λ t. changed_number row.0 t.0) row.1) changes
+    ≡ map (λ row. map (λ t. t.1) row.1) changes
+changes_hold = refl
 
-mod_64 : results Bits64 Mod ((7, 2) ∷ (7, 0) ∷ (with_upper 7, 0) ∷ (5, minus Bits64 1) ∷ []) ≡ 1 ∷ 7 ∷ with_upper 7 ∷ 5
+-- A test's answers in 64 and in 32 bits: of a smaller, an equal and a greater first number, of -1 and 1, and of numbers
+-- whose low halves are equal.
+abbrev tests : List (Test × List Bool × List Bool)
+tests =
+    (Equal, false ∷ true ∷ false ∷ false ∷ false ∷ [], false ∷ true ∷ false ∷ false ∷ true ∷ [])
+    ∷ (NotEqual, true ∷ false ∷ true ∷ true ∷ true ∷ [], true ∷ false ∷ true ∷ true ∷ false ∷ [])
+    ∷ (Greater, false ∷ false ∷ true ∷ true ∷ true ∷ [], false ∷ false ∷ true ∷ true ∷ false ∷ [])
+    ∷ (GreaterOrEqual, false ∷ true ∷ true ∷ true ∷ true ∷ [], false ∷ true ∷ true ∷ true ∷ true ∷ [])
+    ∷ (Less, true ∷ false ∷ false ∷ false ∷ false ∷ [], true ∷ false ∷ false ∷ false ∷ false ∷ [])
+    ∷ (LessOrEqual, true ∷ true ∷ false ∷ false ∷ false ∷ [], true ∷ true ∷ false ∷ false ∷ true ∷ [])
+    ∷ (SignedGreater, false ∷ false ∷ true ∷ false ∷ true ∷ [], false ∷ false ∷ true ∷ false ∷ false ∷ [])
+    ∷ (SignedGreaterOrEqual, false ∷ true ∷ true ∷ false ∷ true ∷ [], false ∷ true ∷ true ∷ false ∷ true ∷ [])
+    ∷ (SignedLess, true ∷ false ∷ false ∷ true ∷ false ∷ [], true ∷ false ∷ false ∷ true ∷ false ∷ [])
+    ∷ (SignedLessOrEqual, true ∷ true ∷ false ∷ true ∷ false ∷ [], true ∷ true ∷ false ∷ true ∷ true ∷ [])
     ∷ []
-mod_64 = refl
 
-mod_32 : results Bits32 Mod ((with_upper 7, 2) ∷ (7, 0) ∷ (with_upper 7, 0) ∷ (with_upper 7, 2 ^ 32) ∷ []) ≡ 1 ∷ 7 ∷ 7
-    ∷ 7 ∷ []
-mod_32 = refl
-
-signed_div_64 : results Bits64 SignedDiv ((7, 2) ∷ (minus Bits64 7, 2) ∷ (7, minus Bits64 2)
-    ∷ (minus Bits64 7, minus Bits64 2) ∷ (least Bits64, minus Bits64 1) ∷ (minus Bits64 7, 0) ∷ []) ≡ 3
-    ∷ minus Bits64 3 ∷ minus Bits64 3 ∷ 3 ∷ least Bits64 ∷ 0 ∷ []
-signed_div_64 = refl
-
-signed_div_32 : results Bits32 SignedDiv ((with_upper 7, 2) ∷ (minus Bits32 7, 2) ∷ (7, minus Bits64 2)
-    ∷ (minus Bits64 7, minus Bits32 2) ∷ (least Bits32, minus Bits64 1) ∷ (minus Bits32 7, 0) ∷ []) ≡ 3
-    ∷ minus Bits32 3 ∷ minus Bits32 3 ∷ 3 ∷ least Bits32 ∷ 0 ∷ []
-signed_div_32 = refl
-
-signed_mod_64 : results Bits64 SignedMod ((7, 2) ∷ (minus Bits64 7, 2) ∷ (7, minus Bits64 2)
-    ∷ (minus Bits64 7, minus Bits64 2) ∷ (least Bits64, minus Bits64 1) ∷ (minus Bits64 7, 0) ∷ []) ≡ 1
-    ∷ minus Bits64 1 ∷ 1 ∷ minus Bits64 1 ∷ 0 ∷ minus Bits64 7 ∷ []
-signed_mod_64 = refl
-
-signed_mod_32 : results Bits32 SignedMod ((with_upper 7, 2) ∷ (minus Bits32 7, 2) ∷ (7, minus Bits64 2)
-    ∷ (minus Bits64 7, minus Bits32 2) ∷ (least Bits32, minus Bits64 1) ∷ (minus Bits64 7, 0) ∷ []) ≡ 1
-    ∷ minus Bits32 1 ∷ 1 ∷ minus Bits32 1 ∷ 0 ∷ minus Bits32 7 ∷ []
-signed_mod_32 = refl
-
--- ---- bits
-
-or_64 : results Bits64 Or ((12, 10) ∷ (2 ^ 63, 1) ∷ []) ≡ 14 ∷ (2 ^ 63 + 1) ∷ []
-or_64 = refl
-
-or_32 : results Bits32 Or ((with_upper 12, 10) ∷ (2 ^ 63, 2 ^ 31) ∷ []) ≡ 14 ∷ 2 ^ 31 ∷ []
-or_32 = refl
-
-and_64 : results Bits64 And ((12, 10) ∷ (2 ^ 64 - 1, with_upper 5) ∷ []) ≡ 8 ∷ with_upper 5 ∷ []
-and_64 = refl
-
-and_32 : results Bits32 And ((with_upper 12, with_upper 10) ∷ (2 ^ 64 - 1, with_upper 5) ∷ []) ≡ 8 ∷ 5 ∷ []
-and_32 = refl
-
-xor_64 : results Bits64 Xor ((12, 10) ∷ (2 ^ 64 - 1, 1) ∷ (7, 7) ∷ []) ≡ 6 ∷ (2 ^ 64 - 2) ∷ 0 ∷ []
-xor_64 = refl
-
-xor_32 : results Bits32 Xor ((with_upper 12, 10) ∷ (2 ^ 64 - 1, 1) ∷ (7, 7) ∷ []) ≡ 6 ∷ (2 ^ 32 - 2) ∷ 0 ∷ []
-xor_32 = refl
-
--- ---- shifts
-
-left_64 : results Bits64 LeftShift ((3, 2) ∷ (3, 63) ∷ (3, 65) ∷ (3, minus Bits64 1) ∷ []) ≡ 12 ∷ 2 ^ 63 ∷ 6 ∷ 2 ^ 63
-    ∷ []
-left_64 = refl
-
-left_32 : results Bits32 LeftShift ((with_upper 3, 2) ∷ (3, 31) ∷ (3, 33) ∷ (3, 2 ^ 32) ∷ (3, minus Bits64 1) ∷ []) ≡ 12
-    ∷ 2 ^ 31 ∷ 6 ∷ 3 ∷ 2 ^ 31 ∷ []
-left_32 = refl
-
-right_64 : results Bits64 RightShift ((12, 2) ∷ (2 ^ 64 - 1, 63) ∷ (12, 65) ∷ []) ≡ 3 ∷ 1 ∷ 6 ∷ []
-right_64 = refl
-
-right_32 : results Bits32 RightShift ((with_upper 12, 2) ∷ (2 ^ 64 - 1, 31) ∷ (12, 33) ∷ []) ≡ 3 ∷ 1 ∷ 6 ∷ []
-right_32 = refl
-
-arithmetic_64 : results Bits64 ArithmeticRightShift
-    ((12, 2) ∷ (minus Bits64 12, 2) ∷ (minus Bits64 1, 63) ∷ (minus Bits64 12, 65) ∷ (0x80000000, 33) ∷ []) ≡ 3
-    ∷ minus Bits64 3 ∷ minus Bits64 1 ∷ minus Bits64 6 ∷ 0 ∷ []
-arithmetic_64 = refl
-
-arithmetic_32 : results Bits32 ArithmeticRightShift
-    ((with_upper 12, 2) ∷ (minus Bits32 12, 2) ∷ (minus Bits64 1, 31) ∷ (0x80000000, 33) ∷ []) ≡ 3 ∷ minus Bits32 3
-    ∷ minus Bits32 1 ∷ 0xc0000000 ∷ []
-arithmetic_32 = refl
-
--- ---- changes of one number
-
-negate_64 : map (changed_number (Negate Bits64)) (7 ∷ 0 ∷ minus Bits64 7 ∷ least Bits64 ∷ []) ≡ minus Bits64 7 ∷ 0 ∷ 7
-    ∷ least Bits64 ∷ []
-negate_64 = refl
-
-negate_32 : map (changed_number (Negate Bits32)) (with_upper 7 ∷ 2 ^ 32 ∷ minus Bits64 7 ∷ least Bits32 ∷ [])
-    ≡ minus Bits32 7 ∷ 0 ∷ 7 ∷ least Bits32 ∷ []
-negate_32 = refl
-
-little_endian : changes (Order LittleEndian swapped.Bits16 ∷ Order LittleEndian swapped.Bits32
-    ∷ Order LittleEndian swapped.Bits64 ∷ []) 0x1122334455667788 ≡ 30600 ∷ 0x55667788 ∷ 0x1122334455667788 ∷ []
-little_endian = refl
-
-big_endian : changes (Order BigEndian swapped.Bits16 ∷ Order BigEndian swapped.Bits32 ∷ Order BigEndian swapped.Bits64
-    ∷ []) 0x1122334455667788 ≡ 34935 ∷ 0x88776655 ∷ 0x8877665544332211 ∷ []
-big_endian = refl
-
-swap : changes (Order Swapped swapped.Bits16 ∷ Order Swapped swapped.Bits32 ∷ Order Swapped swapped.Bits64 ∷ [])
-    0x1122334455667788 ≡ 0x8877 ∷ 0x88776655 ∷ 0x8877665544332211 ∷ []
-swap = refl
-
-sign_extend_negative : changes (SignExtend Bits64 extended.Bits8 ∷ SignExtend Bits32 extended.Bits8 ∷ []) 0x80
-    ≡ 0xffffffffffffff80 ∷ 0xffffff80 ∷ []
-sign_extend_negative = refl
-
-sign_extend_64 : changes (SignExtend Bits64 extended.Bits8 ∷ SignExtend Bits64 extended.Bits16
-    ∷ SignExtend Bits64 extended.Bits32 ∷ []) 0x99aabbcc8899ff7f ≡ 0x7f ∷ 0xffffffffffffff7f ∷ 0xffffffff8899ff7f
-    ∷ []
-sign_extend_64 = refl
-
-sign_extend_32 : changes (SignExtend Bits32 extended.Bits8 ∷ SignExtend Bits32 extended.Bits16 ∷ []) 0x99aabbcc8899ff7f
-    ≡ 0x7f ∷ 0xffffff7f ∷ []
-sign_extend_32 = refl
-
--- ---- tests, of a smaller, an equal and a greater first number, of -1 and 1, and of numbers whose low halves are equal
+abbrev answers : Width → Test → List (ℕ × ℕ) → List Bool
+answers width test pairs = map (λ p. holds width test p.0 p.1) pairs
 
 abbrev pairs : List (ℕ × ℕ)
-pairs = (4, 5) ∷ (5, 5) ∷ (6, 5) ∷ (minus Bits64 1, 1) ∷ (with_upper 5, 5) ∷ []
+pairs = (4, 5) ∷ (5, 5) ∷ (6, 5) ∷ (minus_64 1, 1) ∷ (with_upper 5, 5) ∷ []
 
-equal_64 : answers Bits64 Equal pairs ≡ false ∷ true ∷ false ∷ false ∷ false ∷ []
-equal_64 = refl
+tests_64_hold : map (λ row. answers Bits64 row.0 pairs) tests ≡ map (λ row. row.1) tests
+tests_64_hold = refl
 
-equal_32 : answers Bits32 Equal pairs ≡ false ∷ true ∷ false ∷ false ∷ true ∷ []
-equal_32 = refl
+tests_32_hold : map (λ row. answers Bits32 row.0 pairs) tests ≡ map (λ row. row.2) tests
+tests_32_hold = refl
 
-not_equal_64 : answers Bits64 NotEqual pairs ≡ true ∷ false ∷ true ∷ true ∷ true ∷ []
-not_equal_64 = refl
+-- bits that both numbers have, or neither, and those above the width
+abbrev bit_pairs : List (ℕ × ℕ)
+bit_pairs = (6, 5) ∷ (8, 7) ∷ (2 ^ 32, 2 ^ 32) ∷ (minus_64 1, 0) ∷ []
 
-not_equal_32 : answers Bits32 NotEqual pairs ≡ true ∷ false ∷ true ∷ true ∷ false ∷ []
-not_equal_32 = refl
-
-greater_64 : answers Bits64 Greater pairs ≡ false ∷ false ∷ true ∷ true ∷ true ∷ []
-greater_64 = refl
-
-greater_32 : answers Bits32 Greater pairs ≡ false ∷ false ∷ true ∷ true ∷ false ∷ []
-greater_32 = refl
-
-greater_or_equal_64 : answers Bits64 GreaterOrEqual pairs ≡ false ∷ true ∷ true ∷ true ∷ true ∷ []
-greater_or_equal_64 = refl
-
-greater_or_equal_32 : answers Bits32 GreaterOrEqual pairs ≡ false ∷ true ∷ true ∷ true ∷ true ∷ []
-greater_or_equal_32 = refl
-
-less_64 : answers Bits64 Less pairs ≡ true ∷ false ∷ false ∷ false ∷ false ∷ []
-less_64 = refl
-
-less_32 : answers Bits32 Less pairs ≡ true ∷ false ∷ false ∷ false ∷ false ∷ []
-less_32 = refl
-
-less_or_equal_64 : answers Bits64 LessOrEqual pairs ≡ true ∷ true ∷ false ∷ false ∷ false ∷ []
-less_or_equal_64 = refl
-
-less_or_equal_32 : answers Bits32 LessOrEqual pairs ≡ true ∷ true ∷ false ∷ false ∷ true ∷ []
-less_or_equal_32 = refl
-
-any_bit_64 : answers Bits64 AnyBit ((6, 5) ∷ (8, 7) ∷ (2 ^ 32, 2 ^ 32) ∷ (minus Bits64 1, 0) ∷ []) ≡ true ∷ false ∷ true
-    ∷ false ∷ []
+any_bit_64 : answers Bits64 AnyBit bit_pairs ≡ true ∷ false ∷ true ∷ false ∷ []
 any_bit_64 = refl
 
-any_bit_32 : answers Bits32 AnyBit ((6, 5) ∷ (8, 7) ∷ (2 ^ 32, 2 ^ 32) ∷ (minus Bits64 1, 0) ∷ []) ≡ true ∷ false
-    ∷ false ∷ false ∷ []
+any_bit_32 : answers Bits32 AnyBit bit_pairs ≡ true ∷ false ∷ false ∷ false ∷ []
 any_bit_32 = refl
-
-signed_greater_64 : answers Bits64 SignedGreater pairs ≡ false ∷ false ∷ true ∷ false ∷ true ∷ []
-signed_greater_64 = refl
-
-signed_greater_32 : answers Bits32 SignedGreater pairs ≡ false ∷ false ∷ true ∷ false ∷ false ∷ []
-signed_greater_32 = refl
-
-signed_greater_or_equal_64 : answers Bits64 SignedGreaterOrEqual pairs ≡ false ∷ true ∷ true ∷ false ∷ true ∷ []
-signed_greater_or_equal_64 = refl
-
-signed_greater_or_equal_32 : answers Bits32 SignedGreaterOrEqual pairs ≡ false ∷ true ∷ true ∷ false ∷ true ∷ []
-signed_greater_or_equal_32 = refl
-
-signed_less_64 : answers Bits64 SignedLess pairs ≡ true ∷ false ∷ false ∷ true ∷ false ∷ []
-signed_less_64 = refl
-
-signed_less_32 : answers Bits32 SignedLess pairs ≡ true ∷ false ∷ false ∷ true ∷ false ∷ []
-signed_less_32 = refl
-
-signed_less_or_equal_64 : answers Bits64 SignedLessOrEqual pairs ≡ true ∷ true ∷ false ∷ true ∷ false ∷ []
-signed_less_or_equal_64 = refl
-
-signed_less_or_equal_32 : answers Bits32 SignedLessOrEqual pairs ≡ true ∷ true ∷ false ∷ true ∷ true ∷ []
-signed_less_or_equal_32 = refl

@@ -22,9 +22,9 @@ const LIKELY_HEADER: usize = 2;
 /// From this size on a batch may have no room for a row that fits by its likely size.
 const NEARLY_FULL: usize = MAX_BATCH - 4_096;
 
-/// How many of the first rows one batch takes, and the greatest of their timestamps.
+/// How far a batch is filled: how many of the first rows it takes, and the greatest of their timestamps.
 #[derive(Clone, Copy, Debug)]
-pub struct Extent {
+pub struct Fill {
     pub count: usize,
     pub latest: u64,
 }
@@ -120,7 +120,7 @@ pub fn put_most<L: RowList>(
     first: usize,
     most: usize,
     out: &mut Vec<u8>,
-) -> Result<Extent, AllocError>
+) -> Result<Fill, AllocError>
     requires base { base < TIMESTAMP_END }
     requires there { first + most ≤ length (L.rows rows.now) }
     requires small { first + most < 2 ^ 63 }
@@ -134,11 +134,11 @@ pub fn put_most<L: RowList>(
         let row = rows.row(first + count);
         let put = put_if_room(base, &row, count, out)?;
         if !put {
-            return Ok(Extent { count, latest });
+            return Ok(Fill { count, latest });
         }
         latest = latest.max(row.timestamp);
     }
-    Ok(Extent {
+    Ok(Fill {
         count: most,
         latest,
     })

@@ -3,19 +3,19 @@ use Rattle.std.specs.Prelude.{ℕ, ◌==◌, ◌&&◌, nat_lt, nat_eq, if◌then
 use Rattle.std.specs.Prelude.{codes}
 use Rattle.std.specs.{List.list_all, List.starts_with, Str.bytes_eq}
 use Rattle.machine_spec.specs.declared.helper.Table.{Table}
-use Rattle.script.specs.declared.{command.Command.Command, command.Source.Source}
+use Rattle.script.specs.declared.{command.Command.Command, command.FileWord.FileWord}
 use Rattle.script.specs.declared.command.Command.TheVariants.{Partitions, Load, Deploy, Put, Append, Close, Fetch, Go}
-use Rattle.script.specs.declared.command.Source.TheVariants.{Line, File}
+use Rattle.script.specs.declared.command.FileWord.TheVariants.{Line, File}
 use Rattle.script.specs.Words.{words_of, word_at, decimal_of, spelled_bytes, hex_bytes}
 
 -- the source of a word after `hex:`: the bytes that it spells; a word that spells none is a file's name
-abbrev pub hex_source : Option (List ℕ) → List ℕ → Source
+abbrev pub hex_source : Option (List ℕ) → List ℕ → FileWord
 hex_source (Some bytes) word = Line bytes
 hex_source None word = File word
 
 -- where a command's bytes come from: `hex:` and pairs of lower-case hex digits are those bytes, every other word is a
 -- file's name
-abbrev pub source_of : List ℕ → Source
+abbrev pub source_of : List ℕ → FileWord
 source_of word = if starts_with nat_eq word (codes "hex:") then hex_source (hex_bytes (drop 4 word)) word else File word
 
 -- the command, if each of its words is a number
@@ -35,7 +35,7 @@ table_of words =
     if length words == 4 && bytes_eq (word_at words 3) (codes "2") then Some Table.Two else None
 
 -- the command, if its words name a helper table
-abbrev pub load_of : List ℕ → Source → Option Table → Option Command
+abbrev pub load_of : List ℕ → FileWord → Option Table → Option Command
 load_of name source (Some table) = Some (Load name source table)
 load_of name source None = None
 
@@ -66,7 +66,7 @@ put_line words =
     else None
 
 -- the command, if its first word is a number
-abbrev pub append_of : Option ℕ → Source → Option Command
+abbrev pub append_of : Option ℕ → FileWord → Option Command
 append_of (Some input) source = Some (Append input source)
 append_of None source = None
 

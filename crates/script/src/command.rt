@@ -27,9 +27,9 @@ impl Model for FileName {
     ghost view = { λ n. string_bytes n.text };
 }
 
-/// Where the image of a program is, or record batches are.
+/// The word of a line that says where the image of a program is, or record batches are.
 #[derive(Drop)]
-pub enum Source {
+pub enum FileWord {
     /// In the line itself.
     Line(Bytes),
     /// In a file.
@@ -42,14 +42,14 @@ pub enum Command {
     /// The numbers of input and output partitions, and how many cells a log has.
     Partitions(u64, u64, u64),
     /// Loads an image under a name, as a program of a helper table.
-    Load(RawName, Source, Table),
+    Load(RawName, FileWord, Table),
     /// Deploys a loaded program to an input partition.
     Deploy(u64, RawName),
     /// Appends one record to an input partition: its timestamp in milliseconds, its key and its
     /// value, which may be null.
     Put(u64, u64, Option<Bytes>, Option<Bytes>),
     /// Appends record batches, one after the other, to an input partition.
-    Append(u64, Source),
+    Append(u64, FileWord),
     /// Closes the log of an input partition.
     Close(u64),
     /// Reads rows of an output partition as one record batch: from which place on, and how many at
@@ -84,12 +84,12 @@ fn hex_word(alloc: Global, word: &[u8]) -> Result<Option<Bytes>, AllocError>
 }
 
 /// `hex:` and hex pairs are those bytes, every other word is a file's name.
-fn source_named(alloc: Global, word: &str) -> Result<Source, AllocError>
+fn source_named(alloc: Global, word: &str) -> Result<FileWord, AllocError>
     ensures { IfOk result (λ source. source ≡ source_of word.now) }
 {
     match hex_word(alloc, word.as_bytes())? {
-        Some(bytes) => Ok(Source::Line(bytes)),
-        None => Ok(Source::File(file_of(alloc, word)?)),
+        Some(bytes) => Ok(FileWord::Line(bytes)),
+        None => Ok(FileWord::File(file_of(alloc, word)?)),
     }
 }
 

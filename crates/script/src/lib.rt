@@ -8,7 +8,7 @@ mod pairs;
 mod text;
 mod words;
 
-pub use crate::command::{Command, FileName, Source, parse};
+pub use crate::command::{Command, FileName, FileWord, parse};
 pub use crate::fault::{ScriptFault, first_fault};
 pub use crate::text::{
     append_text, close_text, deploy_text, fetch_text, load_text, push_bytes, push_hex, push_row,

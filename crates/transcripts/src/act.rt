@@ -1,7 +1,7 @@
 //! What a call does, and what it answers.
 
 use crate::call::Call;
-use commands::{Files, command};
+use commands::{Files, Host, command};
 use std::alloc::Global;
 use std::io::{Cursor, Write};
 use std::sync::Wait;
@@ -45,25 +45,20 @@ fn answer_of_klog<T: Threads + Wait + Sync>(
 ) -> io::Result<Vec<u8>> {
     let alloc = rt.alloc();
     fs::write(rt, "input", call.input.as_bytes())?;
-    let mut stdin = Cursor::new(Vec::from_slice(alloc, call.input.as_bytes())?);
-    let mut stdout = Vec::new(alloc);
-    let mut stderr = Vec::new(alloc);
-    let status = command(
-        threads,
+    let mut host = Host {
         alloc,
-        words,
-        &mut Folder { rt },
-        &mut stdin,
-        &mut stdout,
-        &mut stderr,
-    );
-    let mut answer = if call.has_output {
-        stdout
-    } else {
-        Vec::new(alloc)
+        files: Folder { rt },
+        stdin: Cursor::new(Vec::from_slice(alloc, call.input.as_bytes())?),
+        stdout: Vec::new(alloc),
+        stderr: Vec::new(alloc),
     };
+    let status = command(threads, &mut host, words);
+    let mut answer = Vec::new(alloc);
+    if call.has_output {
+        answer.extend_from_slice(&host.stdout)?;
+    }
     if call.has_error {
-        answer.extend_from_slice(&stderr)?;
+        answer.extend_from_slice(&host.stderr)?;
     }
     let code = status.code();
     if code != 0 {

@@ -8,3 +8,4 @@ pub mod CountLaws
 pub mod PushLaws
 pub mod FollowLaws
 pub mod StreamLaws
+pub mod MemoryLaws

@@ -1,15 +1,15 @@
 -- The rows that wait are one batch that is being filled: what adding a row and writing the batch do.
 use Rattle.std.proofs.Common.{◌≡◌, ℕ, suc, ◌+◌, ◌<◌, ◌≤◌, ◌^◌, Bool, true, false, List, [], ◌∷◌, length, drop, Option}
-use Rattle.std.proofs.Common.{Result, Ok, Err, map, slice_get, slice_index_or, Some, refl, sym, ap, subst, ◌∙◌}
+use Rattle.std.proofs.Common.{Result, Ok, Err, slice_get, slice_index_or, Some, refl, sym, ap, subst, ◌∙◌}
 use Rattle.std.proofs.Common.{append-nil, drop-cons, arith}
 use Rattle.std.specs.Io.KnownBytes.{Appends}
 use Rattle.std.proofs.lemmas.List.{drop_at, drop_all, length-append, length-drop}
 use Rattle.std.proofs.lemmas.Option.{get_or_from_slice_get}
 use Rattle.log_spec.specs.declared.row.Row.{Row}
-use Rattle.row_batch.specs.OpenBatches.{shown}
 use Rattle.transform.specs.declared.outlet.OutletFault.{OutletFault}
 use Rattle.transform.specs.declared.outlet.OutletFault.TheVariants as fault
-use Rattle.transform.specs.Backlogs.{Waiting, waiting, with_rows, rest_after, IsBatchOf, IsFull, TakesRow}
+use Rattle.transform.specs.Backlogs.{Waiting, having, with_rows, as_shown, rest_after, none_after}
+use Rattle.transform.specs.Backlogs.{IsBatchOf, IsFull, TakesRow}
 use Rattle.transform.specs.Outlets.{WroteFull, WroteBatches, Fails, PutsAll, PutsOpen}
 use Rattle.transform.proofs.ShownLaws.{one_shown, more_with}
 use Rattle.transform.proofs.OutletLaws.{batches_none, wrote_batches, wrote_to, wrote_then}
@@ -33,20 +33,20 @@ too_much old row others bytes full batch = record {
 
 -- what waits after the batch
 rest_is : (old : Waiting) (more : List Row) →
-    rest_after (with_rows old more) (length old.rows) ≡ waiting (old.place + length old.rows) more
-rest_is old more = ap (waiting (old.place + length old.rows)) (drop_at old.rows more (length old.rows) refl)
+    rest_after (with_rows old more) (length old.rows) ≡ having (none_after old) more
+rest_is old more = ap (having (none_after old)) (drop_at old.rows more (length old.rows) refl)
 
 -- the batch was written, and the row waits
 wrote_open : (old : Waiting) (row : Row) (others : List Row) (before after : Option (List ℕ)) (bytes : List ℕ) →
     IsTooMuch old row others bytes → Appends before after bytes →
-    WroteFull (with_rows old (row ∷ others)) before (waiting (old.place + length old.rows) (row ∷ others)) after
+    WroteFull (with_rows old (row ∷ others)) before (having (none_after old) (row ∷ others)) after
 wrote_open old row others before after bytes much written = record {
   batches = bytes ∷ [];
   are = (
     length old.rows,
     much.batch,
     much.full,
-    ap (λ (w : Waiting). waiting w.place (map shown w.rows)) (sym (rest_is old (row ∷ others))),
+    ap as_shown (sym (rest_is old (row ∷ others))),
   );
   written = subst (λ (bs : List ℕ). Appends before after bs) (sym (append-nil bytes)) written;
 }
@@ -62,7 +62,7 @@ pub put_after : (old same mid new : Waiting) (row : Row) (others : List Row) (be
     WroteFull (with_rows old (row ∷ others)) before (with_rows new others) after
 put_after old same mid new row others before after full puts true takes =
     let wrote : PutsOpen old before (Ok tt) mid after = opened old same mid row before after (Ok tt) full puts in
-    let empty : Waiting = waiting (old.place + length old.rows) [] in
+    let empty : Waiting = none_after old in
     let takes' : TakesRow true empty row new = subst (λ (w : Waiting). TakesRow true w row new) wrote.1.1 takes in
     wrote_to (with_rows old (row ∷ others)) (with_rows empty (row ∷ others)) (with_rows new others) before after
     (wrote_open old row others before after wrote.0 (too_much old row others wrote.0 full.2 wrote.1.0) wrote.2)
@@ -82,7 +82,7 @@ pub stops_after : (old same mid : Waiting) (row : Row) (others : List Row) (befo
     Fails (with_rows old (row ∷ others)) before fault.Memory after
 stops_after old same mid row others before after full puts =
     let wrote : PutsOpen old before (Ok tt) mid after = opened old same mid row before after (Ok tt) full puts in
-    let rest = waiting (old.place + length old.rows) (row ∷ others) in (
+    let rest = having (none_after old) (row ∷ others) in (
       λ e. absurd cc,
       (
         rest,
@@ -176,14 +176,14 @@ put_stops old mid rows index row a b c why more is so_far next =
 all_open : (old new : Waiting) (before after : Option (List ℕ)) → PutsOpen old before (Ok tt) new after →
     WroteBatches old before new after
 all_open old new before after (bytes, given, written) =
-    let none : rest_after old (length old.rows) ≡ waiting (old.place + length old.rows) [] =
-    ap (waiting (old.place + length old.rows)) (drop_all (length old.rows) old.rows (omega arith)) in record {
+    let none : rest_after old (length old.rows) ≡ none_after old =
+    ap (having (none_after old)) (drop_all (length old.rows) old.rows (omega arith)) in record {
       batches = bytes ∷ [];
       are = (
         length old.rows,
         given.0,
         λ lt. absurd (omega (arith, lt)),
-        ap (λ (w : Waiting). waiting w.place (map shown w.rows)) (given.1 ∙ sym none),
+        ap as_shown (given.1 ∙ sym none),
       );
       written = subst (λ (bs : List ℕ). Appends before after bs) (sym (append-nil bytes)) written;
     }

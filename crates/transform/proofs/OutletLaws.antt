@@ -10,7 +10,7 @@ use Rattle.log_spec.specs.declared.row.Row.{Row}
 use Rattle.row_batch.specs.RowBatches.{batch_of}
 use Rattle.transform.specs.declared.outlet.OutletFault.{OutletFault}
 use Rattle.transform.specs.declared.outlet.OutletFault.TheVariants as cause
-use Rattle.transform.specs.Backlogs.{Waiting, waiting, with_rows, ShowsSame, rest_after, IsBatchOf, IsFull}
+use Rattle.transform.specs.Backlogs.{Waiting, having, with_rows, ShowsSame, rest_after, IsBatchOf, IsFull}
 use Rattle.transform.specs.Outlets.{AreFull, AreBatches, WroteFull, WroteBatches, WrotePart, Stops}
 use Rattle.transform.proofs.ShownLaws.{same_length, full_from, batches_from, full_to, with_same}
 use Rattle.wire_spec.proofs.Beginnings.{begun_then}
@@ -28,6 +28,13 @@ total old new [] is = omega (arith, same_length old new is, ap (λ (w : Waiting)
 total old new (bytes ∷ others) are =
     let later = total (rest_after old are.0) new others are.3 in
     omega (arith, later, are.1.there, length-drop are.0 old.rows)
+
+-- as many batches more as were written
+pub batches_counted : (old new : Waiting) (batches : List (List ℕ)) → AreBatches old batches new →
+    new.batches ≡ old.batches + length batches
+batches_counted old new [] is = omega (arith, ap (λ (w : Waiting). w.batches) is)
+batches_counted old new (bytes ∷ others) are =
+    omega (arith, batches_counted (rest_after old are.0) new others are.3)
 
 -- ---- what a writer has
 
@@ -79,7 +86,7 @@ full_with w more count full = ⊎_elim (λ many. inl many) (λ large.
 
 rest_with : (w : Waiting) (more : List Row) (count : ℕ) → count ≤ length w.rows →
     with_rows (rest_after w count) more ≡ rest_after (with_rows w more) count
-rest_with w more count le = ap (waiting (w.place + count)) (sym (drop-append-le count w.rows more le))
+rest_with w more count le = ap (having (rest_after w count)) (sym (drop-append-le count w.rows more le))
 
 all_with : (old new : Waiting) (more : List Row) (batches : List (List ℕ)) → AreFull old batches new →
     AreFull (with_rows old more) batches (with_rows new more)

@@ -7,7 +7,7 @@ use Rattle.wire_spec.specs.declared.limits.TheConstants.{MAX_BATCH}
 use Rattle.log_spec.specs.declared.row.Row.{Row}
 use Rattle.row_batch.specs.{RowBatches.batch_of, OpenBatches.shown}
 use Rattle.row_batch.proofs.ShownLaws.{shown_batch}
-use Rattle.transform.specs.Backlogs.{Waiting, waiting, with_rows, as_shown, ShowsSame, rest_after, IsBatchOf, IsFull}
+use Rattle.transform.specs.Backlogs.{Waiting, having, with_rows, as_shown, ShowsSame, rest_after, IsBatchOf, IsFull}
 use Rattle.transform.specs.Outlets.{AreFull, AreBatches}
 
 -- ---- one batch
@@ -41,7 +41,7 @@ full_same x y count same full = ⊎_elim (λ many. inl many) (λ large. inr (
 )) full
 
 shown_rest : (w : Waiting) (count : ℕ) → as_shown (rest_after w count) ≡ rest_after (as_shown w) count
-shown_rest w count = ap (waiting (w.place + count)) (sym (drop-map shown count w.rows))
+shown_rest w count = ap (having (rest_after w count)) (sym (drop-map shown count w.rows))
 
 rest_same : (x y : Waiting) (count : ℕ) → ShowsSame y x → ShowsSame (rest_after y count) (rest_after x count)
 rest_same x y count same =
@@ -78,7 +78,7 @@ full_to old mid new (bytes ∷ others) are same =
 -- ---- rows more
 
 shown_with : (w : Waiting) (more : List Row) → as_shown (with_rows w more) ≡ with_rows (as_shown w) (map shown more)
-shown_with w more = ap (waiting w.place) (map-append shown w.rows more)
+shown_with w more = ap (having w) (map-append shown w.rows more)
 
 pub with_same : (x y : Waiting) (more : List Row) → ShowsSame y x → ShowsSame (with_rows y more) (with_rows x more)
 with_same x y more same =
@@ -96,11 +96,11 @@ one_shown old new row others is =
     let rows : (old.rows ++ shown row ∷ []) ++ others ≡ old.rows ++ shown row ∷ others =
     append_assoc old.rows (shown row ∷ []) others in
     ap (λ (w : Waiting). as_shown (with_rows w others)) is
-    ∙ (ap (λ (rs : List Row). as_shown (waiting old.place rs)) rows
-    ∙ ap (waiting old.place) (row_shown old.rows row others))
+    ∙ (ap (λ (rs : List Row). as_shown (having old rs)) rows
+    ∙ ap (having old) (row_shown old.rows row others))
 
 pub none_with : (w : Waiting) → with_rows w [] ≡ w
-none_with w = ap (waiting w.place) (append-nil w.rows)
+none_with w = ap (having w) (append-nil w.rows)
 
 pub more_with : (w : Waiting) (rows more : List Row) → with_rows (with_rows w rows) more ≡ with_rows w (rows ++ more)
-more_with w rows more = ap (waiting w.place) (append_assoc w.rows rows more)
+more_with w rows more = ap (having w) (append_assoc w.rows rows more)

@@ -18,7 +18,8 @@ use Rattle.transform.specs.declared.flow.TransformFault.TheVariants as stop
 use Rattle.transform.specs.Transforms.{Flow, Follows, Pushes, EndsFlow, records_of}
 use Rattle.transform.specs.Tellings.{Telling, telling, AddsTellings}
 use Rattle.transform.specs.Streams.{Begins, Gave, EndsAt, Pushed, is_broken, Completed, Transformed, IsToldAfter}
-use Rattle.transform.specs.Streams.{AreTellings, ArePushed, PushesWatched, TransformsWatched}
+use Rattle.transform.specs.Streams.{AreTellings, ArePushed, PushesAll, Tells, PushesWatched, TransformsWatched}
+use Rattle.transform.specs.Transformed.{PushesTo}
 use Rattle.transform.proofs.FollowLaws.{none_follows, one_follows, one_stops, end_finishes, end_counts, end_stops}
 use Rattle.transform.proofs.FollowLaws.{total_more}
 
@@ -32,12 +33,19 @@ one_more bytes [] rest batch used is found =
 one_more bytes (first ∷ batches) rest batch used are found =
     (are.0, are.1, one_more (drop are.0 bytes) batches rest batch used are.2 found)
 
--- no more bytes are left than there were
-no_longer : (bytes : List ℕ) (batches : List Batch) (rest : List ℕ) → AreBatches bytes batches rest →
-    length rest ≤ length bytes
-no_longer bytes [] rest is = omega (arith, ap length is)
-no_longer bytes (first ∷ batches) rest are =
-    omega (arith, no_longer (drop are.0 bytes) batches rest are.2, length-drop are.0 bytes)
+-- a batch has a byte at least
+pub no_more : (bytes : List ℕ) (batches : List Batch) (rest : List ℕ) → AreBatches bytes batches rest →
+    length batches + length rest ≤ length bytes
+no_more bytes [] rest is = omega (arith, ap length is)
+no_more bytes (first ∷ batches) rest are =
+    let size = batch_at-taken bytes first are.0 are.1 in
+    omega (
+      arith,
+      no_more (drop are.0 bytes) batches rest are.2,
+      size.least,
+      size.there,
+      length-drop are.0 bytes,
+    )
 
 -- the same bytes begin with one batch alone
 same_used : (bytes : List ℕ) (batch : Batch) (m n : ℕ) → batch_at bytes ≡ Ok (batch, m) →
@@ -89,7 +97,7 @@ gave_more old mid new given batch gave (going, loses, counts) = record {
         length-drop next.0 so_far.0,
         ap length (same_Some (drop next.0 so_far.0) rest (sym next.2 ∙ after)),
       ) in
-      let fewer = no_longer known given so_far.0 so_far.1 in
+      let fewer = no_more known given so_far.0 so_far.1 in
       let counted = gave.bytes known so_far.0 before so_far.2 (omega (arith, short, rest_is)) in
       let one : new.given.bytes ≡ min (mid.given.bytes + counts.used) (2 ^ 64 - 1) =
       ap (λ (p : Position). p.bytes) counts.counted in
@@ -121,11 +129,12 @@ none_told : (reader : Inlet) (start : Flow) → AreTellings reader start [] []
 none_told reader start = record { count = refl; each = λ k told at. absurd cc }
 
 one_told : (reader mid : Inlet) (start : Flow) (batches : List Batch) (batch : Batch) (tellings : List Telling)
-    (records : ℕ) → AreTellings reader start batches tellings → Gave reader (batches ++ batch ∷ []) mid →
+    (place : Position) (records : ℕ) → AreTellings reader start batches tellings →
+    Gave reader (batches ++ batch ∷ []) mid → place ≡ mid.given →
     records ≡ start.counts.records + records_of (batches ++ batch ∷ []) →
-    AreTellings reader start (batches ++ batch ∷ []) (tellings ++ telling mid.given records ∷ [])
-one_told reader mid start batches batch tellings records so_far gave counted =
-    let last = telling mid.given records in
+    AreTellings reader start (batches ++ batch ∷ []) (tellings ++ telling place records ∷ [])
+one_told reader mid start batches batch tellings place records so_far gave placed counted =
+    let last = telling place records in
     let all = batches ++ batch ∷ [] in
     let AtCount : ℕ → Telling → Type 0 = λ n told. IsToldAfter reader start (take n all) told in
     let whole : take (1 + length tellings) all ≡ all =
@@ -133,7 +142,7 @@ one_told reader mid start batches batch tellings records so_far gave counted =
     let here : IsToldAfter reader start all last = record {
       mid = mid;
       gave = gave;
-      position = refl;
+      position = placed;
       records = counted;
     } in
     let before : (k : ℕ) (told : Telling) → slice_get tellings k ≡ Some told → AtCount (1 + k) told = λ k told at.
@@ -146,9 +155,29 @@ one_told reader mid start batches batch tellings records so_far gave counted =
           (subst (λ (bs : List Batch). IsToldAfter reader start bs last) (sym whole) here);
     }
 
--- what is known after some batches
+-- The batches that a reader gave were pushed, and a watcher was told of them. This much had been given with them,
+-- unless an output partition failed.
+pub record PushesTold (program : Program) (reader : Inlet) (start : Flow) (result : Result (Unit {0}) StreamFault)
+    (after : Inlet) (now : Flow) (old new : Option (List Telling)) (place : Position) : Type 0 where
+  all : PushesAll program reader start result after now
+  told : Tells reader start program all.0 result now old new
+  placed : is_broken result ≡ false → place ≡ all.1.given
+
+pub was_told : {program : Program} {reader : Inlet} {start : Flow} {result : Result (Unit {0}) StreamFault}
+    {after : Inlet} {now : Flow} {old new : Option (List Telling)} {place : Position} →
+    PushesTold program reader start result after now old new place →
+    PushesWatched program reader start result after now old new
+was_told ends = record { all = ends.all; told = ends.told }
+
+pub was_placed : {program : Program} {reader : Inlet} {start : Flow} {result : Result (Unit {0}) StreamFault}
+    {after : Inlet} {now : Flow} {old new : Option (List Telling)} {place : Position} →
+    PushesTold program reader start result after now old new place →
+    PushesTo program reader start result after now place
+was_placed ends = record { all = ends.all; placed = ends.placed }
+
+-- What is known after some batches. The place is how much was given with them.
 pub record Underway (program : Program) (first : Inlet) (start : Flow) (old : Option (List Telling)) (reader : Inlet)
-    (now : Flow) (new : Option (List Telling)) : Type 0 where
+    (now : Flow) (new : Option (List Telling)) (place : Position) : Type 0 where
   pub batches : List Batch
   pub follows : Follows start program batches now
   pub gave : Gave first batches reader
@@ -157,110 +186,103 @@ pub record Underway (program : Program) (first : Inlet) (start : Flow) (old : Op
   pub tellings : List Telling
   pub are : AreTellings first start batches tellings
   pub told : AddsTellings old tellings new
+  pub placed : place ≡ reader.given
 
-pub begun : (program : Program) (first : Inlet) (start : Flow) (old : Option (List Telling)) → IsOpen first →
-    Underway program first start old first start old
-begun program first start old is_open = record {
-  batches = [];
-  follows = none_follows start program;
-  gave = gave_none first;
-  is_open = is_open;
-  counted = omega arith;
-  tellings = [];
-  are = none_told first start;
-  told = adds_nothing old;
-}
+module _ (program : Program) (first : Inlet) (start : Flow) (old : Option (List Telling)) where
+  pub begun : (place : Position) → IsOpen first → place ≡ first.given →
+      Underway program first start old first start old place
+  begun place is_open placed = record {
+    batches = [];
+    follows = none_follows start program;
+    gave = gave_none first;
+    is_open = is_open;
+    counted = omega arith;
+    tellings = [];
+    are = none_told first start;
+    told = adds_nothing old;
+    placed = placed;
+  }
 
-pub goes_on : (program : Program) (first : Inlet) (start : Flow) (old : Option (List Telling)) (mid after : Inlet)
-    (before now : Flow) (so_told new : Option (List Telling)) (batch : Batch) →
-    Underway program first start old mid before so_told → ReadsBatch mid (Ok (Some batch)) after →
-    Pushes program batch before (Ok tt) now →
-    now.counts.records ≡ before.counts.records + length batch.records →
-    AddsTellings so_told (telling after.given now.counts.records ∷ []) new →
-    Underway program first start old after now new
-goes_on program first start old mid after before now so_told new batch so_far reads pushes more tells =
-    let gave = gave_more first mid after so_far.batches batch so_far.gave reads in
-    let counted : now.counts.records ≡ start.counts.records + records_of (so_far.batches ++ batch ∷ []) =
-    omega (arith, more, so_far.counted, total_more so_far.batches batch) in record {
-      batches = so_far.batches ++ batch ∷ [];
-      follows = one_follows start before now program so_far.batches batch so_far.follows pushes;
-      gave = gave;
-      is_open = reads.0;
-      counted = counted;
-      tellings = so_far.tellings ++ telling after.given now.counts.records ∷ [];
-      are = one_told first after start so_far.batches batch so_far.tellings now.counts.records so_far.are gave counted;
-      told = adds_then old so_told new so_far.tellings (telling after.given now.counts.records ∷ []) so_far.told tells;
+  module _ (mid after : Inlet) (before now : Flow) (so_told new : Option (List Telling)) (place : Position)
+      (so_far : Underway program first start old mid before so_told place) where
+    pub goes_on : (batch : Batch) (next : Position) → ReadsBatch mid (Ok (Some batch)) after →
+        Pushes program batch before (Ok tt) now →
+        now.counts.records ≡ before.counts.records + length batch.records → next ≡ after.given →
+        AddsTellings so_told (telling next now.counts.records ∷ []) new →
+        Underway program first start old after now new next
+    goes_on batch next reads pushes more placed tells =
+        let gave = gave_more first mid after so_far.batches batch so_far.gave reads in
+        let counted : now.counts.records ≡ start.counts.records + records_of (so_far.batches ++ batch ∷ []) =
+        omega (arith, more, so_far.counted, total_more so_far.batches batch) in record {
+          batches = so_far.batches ++ batch ∷ [];
+          follows = one_follows start before now program so_far.batches batch so_far.follows pushes;
+          gave = gave;
+          is_open = reads.0;
+          counted = counted;
+          tellings = so_far.tellings ++ telling next now.counts.records ∷ [];
+          are = one_told first after start so_far.batches batch so_far.tellings next now.counts.records so_far.are gave
+              placed counted;
+          told = adds_then old so_told new so_far.tellings (telling next now.counts.records ∷ []) so_far.told tells;
+          placed = placed;
+        }
+
+    -- ---- how that ends
+
+    abbrev Ends : Result (Unit {0}) StreamFault → Type 0
+    Ends result = PushesTold program first start result after now old so_told place
+
+    -- nothing more was pushed
+    ends : (result : Result (Unit {0}) StreamFault) → EndsAt start so_far.batches mid result after →
+        Pushed start program so_far.batches result now →
+        ArePushed start program so_far.batches result now so_far.batches → Ends result
+    ends result at pushed are = record {
+      all = (so_far.batches, mid, so_far.gave, at, pushed);
+      told = (so_far.batches, so_far.tellings, are, so_far.are, so_far.told);
+      placed = λ whole. so_far.placed;
     }
 
--- ---- how that ends
-
-pub at_end : (program : Program) (first : Inlet) (start : Flow) (old : Option (List Telling)) (mid after : Inlet)
-    (now : Flow) (new : Option (List Telling)) → Underway program first start old mid now new →
-    ReadsBatch mid (Ok None) after → PushesWatched program first start (Ok tt) after now old new
-at_end program first start old mid after now new so_far reads = record {
-  all = (so_far.batches, mid, so_far.gave, reads, so_far.follows);
-  told = (so_far.batches, so_far.tellings, refl, so_far.are, so_far.told);
-}
-
-pub unread : (program : Program) (first : Inlet) (start : Flow) (old : Option (List Telling)) (mid after : Inlet)
-    (now : Flow) (new : Option (List Telling)) (why : ReadFault) (result : Result (Unit {0}) StreamFault) →
-    Underway program first start old mid now new → ReadsBatch mid (Err why) after → result ≡ Err (fault.Read why) →
-    PushesWatched program first start result after now old new
-unread program first start old mid after now new why result so_far reads is =
-    subst (λ (r : Result (Unit {0}) StreamFault). PushesWatched program first start r after now old new) (sym is)
-    (record {
-      all = (so_far.batches, mid, so_far.gave, reads, so_far.follows);
-      told = (so_far.batches, so_far.tellings, refl, so_far.are, so_far.told);
-    })
-
-pub unpushed : (program : Program) (first : Inlet) (start : Flow) (old : Option (List Telling)) (mid after : Inlet)
-    (before now : Flow) (new : Option (List Telling)) (batch : Batch) (why : TransformFault)
-    (result : Result (Unit {0}) StreamFault) → Underway program first start old mid before new →
-    ReadsBatch mid (Ok (Some batch)) after → Pushes program batch before (Err why) now →
-    result ≡ Err (fault.Transform why) → PushesWatched program first start result after now old new
-unpushed program first start old mid after before now new batch why result so_far reads pushes is =
-    subst (λ (r : Result (Unit {0}) StreamFault). PushesWatched program first start r after now old new) (sym is)
-    (by_fault why pushes)
-  where
     still : now ≡ before → Follows start program so_far.batches now
     still same = subst (λ (f : Flow). Follows start program so_far.batches f) (sym same) so_far.follows
 
-    by_fault : (why : TransformFault) → Pushes program batch before (Err why) now →
-        PushesWatched program first start (Err (fault.Transform why)) after now old new
-    by_fault (stop.Output output cause) pushes = record {
-      all = (
-        so_far.batches ++ batch ∷ [],
-        after,
-        gave_more first mid after so_far.batches batch so_far.gave reads,
-        inl refl,
-        one_stops start before now program so_far.batches batch output cause so_far.follows pushes,
-      );
-      told = (
-        so_far.batches,
-        so_far.tellings,
-        (before, so_far.follows, inr (batch, refl, pushes)),
-        so_far.are,
-        so_far.told,
-      );
-    }
-    by_fault stop.Full (top, same) = record {
-      all = (
-        so_far.batches,
-        mid,
-        so_far.gave,
-        (omega (arith, top, so_far.follows.offset), batch, reads),
-        still same,
-      );
-      told = (so_far.batches, so_far.tellings, refl, so_far.are, so_far.told);
-    }
-    by_fault stop.Memory same = record {
-      all = (so_far.batches, mid, so_far.gave, (batch, reads), still same);
-      told = (so_far.batches, so_far.tellings, refl, so_far.are, so_far.told);
-    }
+    pub at_end : ReadsBatch mid (Ok None) after → now ≡ before → Ends (Ok tt)
+    at_end reads same = ends (Ok tt) reads (still same) refl
+
+    pub unread : (why : ReadFault) (result : Result (Unit {0}) StreamFault) → ReadsBatch mid (Err why) after →
+        now ≡ before → result ≡ Err (fault.Read why) → Ends result
+    unread why result reads same is = subst Ends (sym is) (ends (Err (fault.Read why)) reads (still same) refl)
+
+    pub unpushed : (batch : Batch) (why : TransformFault) (result : Result (Unit {0}) StreamFault) →
+        ReadsBatch mid (Ok (Some batch)) after → Pushes program batch before (Err why) now →
+        result ≡ Err (fault.Transform why) → Ends result
+    unpushed batch why result reads pushes is = subst Ends (sym is) (by_fault why pushes)
+      where
+        by_fault : (why : TransformFault) → Pushes program batch before (Err why) now →
+            Ends (Err (fault.Transform why))
+        by_fault (stop.Output output cause) pushes = record {
+          all = (
+            so_far.batches ++ batch ∷ [],
+            after,
+            gave_more first mid after so_far.batches batch so_far.gave reads,
+            inl refl,
+            one_stops start before now program so_far.batches batch output cause so_far.follows pushes,
+          );
+          told = (
+            so_far.batches,
+            so_far.tellings,
+            (before, so_far.follows, inr (batch, refl, pushes)),
+            so_far.are,
+            so_far.told,
+          );
+          placed = λ whole. absurd cc;
+        }
+        by_fault stop.Full (top, same) =
+            ends (Err (fault.Transform stop.Full)) (omega (arith, top, so_far.follows.offset), batch, reads)
+            (still same) refl
+        by_fault stop.Memory same = ends (Err (fault.Transform stop.Memory)) (batch, reads) (still same) refl
 
 -- ---- and what waits is written
 
-written : (start mid new : Flow) (program : Program) (batches : List Batch) → Follows start program batches mid →
+pub written : (start mid new : Flow) (program : Program) (batches : List Batch) → Follows start program batches mid →
     EndsFlow mid (Ok tt) new → Completed start program batches new
 written start mid new program batches follows ends = record {
   input = ap (λ (f : Flow). f.input) ends.1 ∙ follows.input;
@@ -320,54 +342,33 @@ unbroken start program batches pushed (Err (fault.Transform stop.Memory)) mid no
 unbroken start program batches pushed (Err (fault.Transform (stop.Output output why))) mid now last after is at follows
     are = absurd cc
 
-pub all_written : (program : Program) (first : Inlet) (start : Flow) (result : Result (Unit {0}) StreamFault)
-    (after : Inlet) (mid now : Flow) (old new : Option (List Telling)) → is_broken result ≡ false →
-    PushesWatched program first start result after mid old new → EndsFlow mid (Ok tt) now →
-    TransformsWatched program first start result after now old new
-all_written program first start result after mid now old new is watched ends =
-    let batches = watched.all.0 in let last = watched.all.1 in let tells = watched.told in
-    let known : Unbroken start program batches tells.0 result mid now last after =
-    unbroken start program batches tells.0 result mid now last after is watched.all.3 watched.all.4 tells.2 in record {
-      all = (
-        batches,
-        last,
-        watched.all.2,
-        watched.all.3,
-        known.done (written start mid now program batches known.follows ends),
-      );
-      told = (tells.0, tells.1, known.told, tells.3, tells.4);
-    }
+module _ (program : Program) (first : Inlet) (start : Flow) (result : Result (Unit {0}) StreamFault) (after : Inlet)
+    (mid now : Flow) (old new : Option (List Telling))
+    (watched : PushesWatched program first start result after mid old new) where
+  known : is_broken result ≡ false →
+      Unbroken start program watched.all.0 watched.told.0 result mid now watched.all.1 after
+  known whole = unbroken start program watched.all.0 watched.told.0 result mid now watched.all.1 after whole
+      watched.all.3 watched.all.4 watched.told.2
 
--- an output partition failed at the end
-pub unwritten : (program : Program) (first : Inlet) (start : Flow) (result : Result (Unit {0}) StreamFault)
-    (after : Inlet) (mid now : Flow) (old new : Option (List Telling)) (why : TransformFault) →
-    is_broken result ≡ false → PushesWatched program first start result after mid old new →
-    EndsFlow mid (Err why) now → TransformsWatched program first start (Err (fault.Transform why)) after now old new
-unwritten program first start result after mid now old new stop.Full is watched ends = absurd ends.0
-unwritten program first start result after mid now old new stop.Memory is watched ends = absurd ends.0
-unwritten program first start result after mid now old new (stop.Output output why) is watched ends =
-    let batches = watched.all.0 in let last = watched.all.1 in let tells = watched.told in
-    let known : Unbroken start program batches tells.0 result mid now last after =
-    unbroken start program batches tells.0 result mid now last after is watched.all.3 watched.all.4 tells.2 in record {
-      all = (
-        batches,
-        last,
-        watched.all.2,
-        known.given,
-        end_stops start mid now program batches output why known.follows ends,
-      );
-      told = (
-        tells.0,
-        tells.1,
-        (
-          mid,
-          subst (λ (bs : List Batch). Follows start program bs mid) known.all_pushed known.follows,
-          inl (known.all_pushed, ends),
-        ),
-        tells.3,
-        tells.4,
-      );
-    }
+  pub all_written : is_broken result ≡ false → EndsFlow mid (Ok tt) now →
+      TransformsWatched program first start result after now old new
+  all_written whole ends =
+      let all = watched.all in let tells = watched.told in let is = known whole in record {
+        all = (all.0, all.1, all.2, all.3, is.done (written start mid now program all.0 is.follows ends));
+        told = (tells.0, tells.1, is.told, tells.3, tells.4);
+      }
+
+  -- an output partition failed at the end
+  pub unwritten : (why : TransformFault) → is_broken result ≡ false → EndsFlow mid (Err why) now →
+      TransformsWatched program first start (Err (fault.Transform why)) after now old new
+  unwritten stop.Full whole ends = absurd ends.0
+  unwritten stop.Memory whole ends = absurd ends.0
+  unwritten (stop.Output output why) whole ends =
+      let all = watched.all in let tells = watched.told in let is = known whole in
+      let follows = subst (λ (bs : List Batch). Follows start program bs mid) is.all_pushed is.follows in record {
+        all = (all.0, all.1, all.2, is.given, end_stops start mid now program all.0 output why is.follows ends);
+        told = (tells.0, tells.1, (mid, follows, inl (is.all_pushed, ends)), tells.3, tells.4);
+      }
 
 -- an output partition failed before the end, so that nothing more is written
 pub stays_broken : (program : Program) (first : Inlet) (start : Flow) (result : Result (Unit {0}) StreamFault)

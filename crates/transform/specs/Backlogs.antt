@@ -6,22 +6,32 @@ use Rattle.wire_spec.specs.declared.limits.TheConstants.{MAX_BATCH, MAX_RECORDS}
 use Rattle.log_spec.specs.declared.row.Row.{Row}
 use Rattle.row_batch.specs.{RowBatches.batch_of, OpenBatches.shown}
 
--- the rows that are in no batch yet, and how many are in batches, which is the first one's offset
+-- the rows that are in no batch yet, how many are in batches, which is the first one's offset, and how many batches
+-- these are
 pub record Waiting : Type 0 where
   pub place : ℕ
+  pub batches : ℕ
   pub rows : List Row
 
--- what waits where this many rows are in batches, and these rows in none yet
+-- what waits where this many rows are in this many batches, and these rows in none yet
+abbrev pub waiting_after : ℕ → ℕ → List Row → Waiting
+waiting_after place batches rows = record { place = place; batches = batches; rows = rows }
+
+-- these rows, the first at this offset, before there is a batch
 abbrev pub waiting : ℕ → List Row → Waiting
-waiting place rows = record { place = place; rows = rows }
+waiting place rows = waiting_after place 0 rows
+
+-- what waits, with these rows in place of its own
+abbrev pub having : Waiting → List Row → Waiting
+having w rows = waiting_after w.place w.batches rows
 
 -- with rows more at the end
 abbrev pub with_rows : Waiting → List Row → Waiting
-with_rows w rows = waiting w.place (w.rows ++ rows)
+with_rows w rows = having w (w.rows ++ rows)
 
 -- what waits, with its rows as a batch shows them
 abbrev pub as_shown : Waiting → Waiting
-as_shown w = waiting w.place (map shown w.rows)
+as_shown w = having w (map shown w.rows)
 
 -- No batch shows a difference: the rows are the same but for where their records came from.
 abbrev pub ShowsSame : Waiting → Waiting → Type 0
@@ -29,7 +39,7 @@ ShowsSame x y = as_shown x ≡ as_shown y
 
 -- what waits after the first `count` rows were put into a batch
 abbrev pub rest_after : Waiting → ℕ → Waiting
-rest_after w count = waiting (w.place + count) (drop count w.rows)
+rest_after w count = waiting_after (w.place + count) (w.batches + 1) (drop count w.rows)
 
 -- the batch of the first `count` rows that wait; one row more would be too much for it
 pub record IsBatchOf (w : Waiting) (count : ℕ) (bytes : List ℕ) : Type 0 where
@@ -51,7 +61,10 @@ TakesRow true old row new = new ≡ with_rows old (shown row ∷ [])
 TakesRow false old row new =
     (new ≡ old) × (1 ≤ length old.rows) × IsFull (with_rows old (row ∷ [])) (length old.rows)
 
+-- what waits after the batch of all rows that waited: none of them
+abbrev pub none_after : Waiting → Waiting
+none_after w = waiting_after (w.place + length w.rows) (w.batches + 1) []
+
 -- The batch of all rows that wait was given, and none of them waits.
 abbrev pub GivesAll : Waiting → List ℕ → Waiting → Type 0
-GivesAll old bytes new =
-    IsBatchOf old (length old.rows) bytes × (new ≡ waiting (old.place + length old.rows) [])
+GivesAll old bytes new = IsBatchOf old (length old.rows) bytes × (new ≡ none_after old)

@@ -3,3 +3,4 @@ pub mod Outlets
 pub mod Transforms
 pub mod Tellings
 pub mod Streams
+pub mod Transformed

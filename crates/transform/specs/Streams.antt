@@ -5,7 +5,7 @@ use Rattle.wire_spec.specs.declared.record.Batch.{Batch}
 use Rattle.wire_spec.specs.declared.limits.TheConstants.{TIMESTAMP_END, MAX_RECORDS}
 use Rattle.machine_spec.specs.Image.{Program}
 use Rattle.batch.specs.Batches.{AreBatches}
-use Rattle.batch_reader.specs.Readings.{Inlet, left_of, ReadsBatch}
+use Rattle.batch_reader.specs.{Readings.Inlet, Readings.left_of, Readings.ReadsBatch}
 use Rattle.transform.specs.declared.{stream.StreamFault.StreamFault, flow.TransformFault.TransformFault}
 use Rattle.transform.specs.declared.stream.StreamFault.TheVariants as fault
 use Rattle.transform.specs.declared.flow.TransformFault.TheVariants as stop

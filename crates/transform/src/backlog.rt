@@ -13,23 +13,26 @@ use std::marker::Model;
 const PLACE_END: u64 = 9_223_372_036_854_775_808;
 
 /// The rows of an output partition that are in no batch yet, as one batch that is being filled.
-/// Contracts see how many rows were in batches before, and those that wait.
+/// Contracts see how many rows were in batches before, how many batches these are, and the rows that
+/// wait.
 #[derive(Drop)]
 pub struct Backlog {
     // How many rows are in batches, and so the offset of the first that waits.
     place: u64,
+    // How many batches these are.
+    batches: u64,
     batch: OpenBatch,
 }
 
 impl Model for Backlog {
     ghost use Rattle.std.specs.Prelude.{◌≤◌, ◌+◌, ◌^◌, length};
-    ghost use Rattle.transform.specs.Backlogs.{Waiting, waiting};
+    ghost use Rattle.transform.specs.Backlogs.{Waiting, waiting_after};
 
     ghost Value = { Waiting };
 
-    ghost view = { λ b. waiting b.place b.batch };
+    ghost view = { λ b. waiting_after b.place b.batches b.batch };
 
-    ghost invariant = { λ b. b.place + length b.batch ≤ 2 ^ 63 };
+    ghost invariant = { λ b. (b.place + length b.batch ≤ 2 ^ 63) × (b.batches ≤ b.place) };
 }
 
 impl Backlog {
@@ -39,15 +42,16 @@ impl Backlog {
     {
         Backlog {
             place: 0,
+            batches: 0,
             batch: OpenBatch::new(alloc),
         }
     }
 
-    /// The offset of the first row that waits: how many rows are in batches.
-    pub fn place(&self) -> u64
-        ensures { result ≡ self.now.place }
+    /// How many batches were taken.
+    pub fn batches(&self) -> u64
+        ensures { result ≡ self.now.batches }
     {
-        self.place
+        self.batches
     }
 
     /// How many rows were added, those that wait among them.
@@ -94,6 +98,7 @@ impl Backlog {
         let count = self.len() as u64;
         let bytes = self.batch.take(self.place)?;
         self.place += count;
+        self.batches += 1;
         Ok(bytes)
     }
 

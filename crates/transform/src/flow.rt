@@ -15,7 +15,7 @@ use std::alloc::{AllocError, Global};
 use std::io::Write;
 use std::marker::Model;
 use thiserror::Error;
-use wire_spec::{Batch, MAX_RECORDS, TIMESTAMP_END};
+use wire_spec::{MAX_RECORDS, TIMESTAMP_END};
 
 /// Why a batch is not transformed.
 #[derive(Clone, Copy, Debug, PartialEq, Eq, Drop, Error)]
@@ -115,8 +115,20 @@ impl<W: Write> Transform<W> {
     pub fn into_outlets(self) -> Vec<Outlet<W>>
         ensures { result.items ≡ self.outputs }
     {
-        let Transform { outlets, .. } = self;
-        outlets
+        self.into_parts().0
+    }
+
+    /// The output partitions and the counts, by value.
+    pub(crate) fn into_parts(self) -> (Vec<Outlet<W>>, Counts)
+        ensures outlets { result.0.items ≡ self.outputs }
+        ensures counts { result.1 ≡ self.counts }
+    {
+        let Transform {
+            outlets,
+            counts,
+            ..
+        } = self;
+        (outlets, counts)
     }
 
     /// Runs a program on the records of the next batch, in order, each once, counts what became of
@@ -125,43 +137,20 @@ impl<W: Write> Transform<W> {
     /// the offset 2^62, or where memory runs out before a row is put; then nothing changes. It fails
     /// with an output partition as `Outlet::put` does; then each output partition has written whole
     /// batches of its rows, and that one maybe a beginning of one more.
-    pub fn push(&mut self, program: &Program, batch: Batch) -> Result<(), TransformFault>
+    pub fn push(&mut self, program: &Program, batch: PackedBatch) -> Result<(), TransformFault>
         requires { FitsLog batch }
-        ensures pushes { Pushes program.now batch self.old result self.new }
-        ensures counted { OnOk result (self.new.counts.records ≡ self.old.counts.records + length batch.records) }
-    {
-        let logged = LoggedBatch::new(self.blocks.alloc(), batch)?;
-        self.push_logged(program, logged)
-    }
-
-    /// The same of a batch whose records stay in the bytes that they came in.
-    pub fn push_packed(
-        &mut self,
-        program: &Program,
-        batch: PackedBatch,
-    ) -> Result<(), TransformFault>
-        requires { FitsLog batch }
-        ensures pushes { Pushes program.now batch self.old result self.new }
-        ensures counted { OnOk result (self.new.counts.records ≡ self.old.counts.records + length batch.records) }
-    {
-        let logged = LoggedBatch::packed(self.blocks.alloc(), batch)?;
-        self.push_logged(program, logged)
-    }
-
-    // The same of a batch as a log has it.
-    fn push_logged(&mut self, program: &Program, batch: LoggedBatch) -> Result<(), TransformFault>
         ensures pushes { Pushes program.now batch self.old result self.new }
         ensures counted { OnOk result (self.new.counts.records ≡ self.old.counts.records + length batch.records) }
     {
         if self.offset > TIMESTAMP_END - MAX_RECORDS as u64 {
             return Err(TransformFault::Full);
         }
+        let batch = LoggedBatch::packed(self.blocks.alloc(), batch)?;
         let origin = Origin {
             input: self.input,
             offset: self.offset,
             outputs: self.outlets.len(),
         };
-        let _fits = batch.len();
         let item = Item::Batch(batch);
         let rows = item_refs_in(&mut self.blocks, &origin, Some(program), &item)?;
         self.counts.add_all(rows.counts())?;

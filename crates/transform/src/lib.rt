@@ -5,11 +5,13 @@
 mod backlog;
 mod flow;
 mod laws;
+mod memory;
 mod outlet;
 mod stream;
 
 pub use crate::backlog::Backlog;
 pub use crate::flow::{Transform, TransformFault};
 pub use crate::laws::{many_batches, rows_of_a_log};
+pub use crate::memory::{BatchPlace, OutputBatches, Stop, Transformed, transform_batches};
 pub use crate::outlet::{Outlet, OutletFault};
 pub use crate::stream::{StreamFault, Watch, transform_all, transform_watched};

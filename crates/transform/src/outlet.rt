@@ -90,6 +90,13 @@ impl<W: Write> Outlet<W> {
         self.backlog.rows()
     }
 
+    /// How many batches were written, one that failed among them.
+    pub fn batches(&self) -> u64
+        ensures { result ≡ self.now.waits.batches }
+    {
+        self.backlog.batches()
+    }
+
     /// Adds rows at the end, one after the other, and writes the batch of those that wait before a row
     /// that it has no room for. It is full only where an offset would be 2^63 or more; then nothing
     /// changes. It fails otherwise only where memory runs out, and where the writer fails or takes no

@@ -1,14 +1,12 @@
 //! All batches of a reader through a program.
 
-ghost use Rattle.std.specs.Prelude.{◌≡◌, List, [], ◌∷◌, Option, None, IfOk, IfSome};
-ghost use Rattle.log_spec.specs.Logs.{FitsLog};
-ghost use Rattle.batch_reader.specs.Readings.{IsOpen, ReadsBatch};
+ghost use Rattle.std.specs.Prelude.{◌≡◌, List, [], ◌∷◌, Option, None};
+ghost use Rattle.batch_reader.specs.Readings.{IsOpen};
 ghost use Rattle.transform.specs.Streams.{is_broken, PushesWatched, TransformsAll, TransformsWatched};
 ghost use Rattle.transform.specs.Tellings.{Telling, telling, AddsTellings};
 ghost use Rattle.transform.specs.declared.stream.StreamFault.TheVariants.{Read as Unread, Transform as Stopped};
 
 use crate::flow::{Transform, TransformFault};
-use batch::PackedBatch;
 use batch_reader::{BatchReader, Position, ReadFault};
 use log_item::Program;
 use std::io::{Read, Write};
@@ -101,15 +99,10 @@ pub fn transform_watched<R: Read, W: Write, V: Watch>(
 fn is_broken(pushed: &Result<(), StreamFault>) -> bool
     ensures { result ≡ is_broken pushed.now }
 {
-    match pushed {
-        Ok(()) => false,
-        Err(StreamFault::Read(_)) => false,
-        Err(StreamFault::Transform(fault)) => match fault {
-            TransformFault::Full => false,
-            TransformFault::Memory => false,
-            TransformFault::Output { .. } => true,
-        },
-    }
+    matches!(
+        pushed,
+        Err(StreamFault::Transform(TransformFault::Output { .. }))
+    )
 }
 
 // Runs a program on all batches of a reader, and tells a watcher of each.
@@ -123,21 +116,11 @@ fn push_all<R: Read, W: Write, V: Watch>(
     ensures { PushesWatched program.now reader.old stream.old result reader.new stream.new (V.told watch.old) (V.told watch.new) }
 {
     for _ in 0..u64::MAX {
-        match next_batch(reader)? {
+        match reader.next()? {
             None => return Ok(()),
-            Some(batch) => stream.push_packed(program, batch)?,
+            Some(batch) => stream.push(program, batch)?,
         }
         watch.batch_done(reader.position(), stream.counts().records());
     }
     Err(StreamFault::Read(ReadFault::Read))
-}
-
-// The next batch of a reader, which a log takes.
-#[tactic(auto, using(log_spec::proofs::FittingBatches::fits))]
-fn next_batch<R: Read>(reader: &mut BatchReader<R>) -> Result<Option<PackedBatch>, ReadFault>
-    requires { IsOpen reader.old }
-    ensures gives { ReadsBatch reader.old result reader.new }
-    ensures fits { IfOk result (λ given. IfSome given FitsLog) }
-{
-    reader.next()
 }

@@ -1,8 +1,9 @@
 -- The joined states of an image's code are within those of every annotation, and an annotation where there is one.
-use Rattle.std.proofs.Common.{◌≡◌, ◌≢◌, ℕ, zero, suc, ◌+◌, ◌<◌, ℤ, Bool, true, false, not, ◌==◌, ◌&&◌, List, [], ◌∷◌}
-use Rattle.std.proofs.Common.{◌++◌, length, slice_get, Option, Some, None, refl, sym, ◌∙◌, inl, inr, ⊎_elim, arith}
+use Rattle.std.proofs.Common.{◌≡◌, ◌≢◌, ℕ, zero, suc, ◌+◌, ◌<◌, ◌≤◌, ℤ, Bool, true, false, not, ◌==◌, ◌&&◌, List, []}
+use Rattle.std.proofs.Common.{◌∷◌, ◌++◌, length, slice_get, Option, Some, None, refl, sym, ◌∙◌, inl, inr, ⊎_elim}
+use Rattle.std.proofs.Common.{zero-add, arith}
 use Rattle.std.proofs.lemmas.Bool.{and_parts, and_from, cases_Bool, cases_lt, eq-eqb, eqb-true, not-false}
-use Rattle.std.proofs.lemmas.Option.{none-some, slice_get_within}
+use Rattle.std.proofs.lemmas.Option.{slice_get_within}
 use Rattle.machine_spec.specs.declared.{helper.Helper.Helper, instruction.Instruction.Instruction}
 use Rattle.machine_spec.specs.declared.instruction.Placed.{Placed}
 use Rattle.machine_spec.specs.declared.instruction.Instruction.TheVariants.{Jump, Exit}
@@ -11,18 +12,17 @@ use Rattle.machine_spec.proofs.Slots.{lands, later_number, number_of_placed, num
 use Rattle.verifier_spec.specs.{declared.state.Abstract.Abstract, declared.fault.Check.Check}
 use Rattle.verifier_spec.specs.{declared.fault.VerifyFault.VerifyFault, Transfer.falls_to, Transfer.jumps_to}
 use Rattle.verifier_spec.specs.declared.fault.Check.TheVariants as check
-use Rattle.verifier_spec.specs.States.{is_proper, is_within, entry_state}
+use Rattle.verifier_spec.specs.States.{is_proper, entry_state}
 use Rattle.verifier_spec.specs.Checks.{checks, failed_check, jump_of, shape_checks, leads_nowhere, leads_back}
 use Rattle.verifier_spec.specs.Checks.{never_falls, runs_off}
 use Rattle.verifier_spec.specs.Annotation.{Claims, claim_at, claim_of, is_covered, is_edge_covered, are_edges_covered}
-use Rattle.verifier_spec.specs.Annotation.{IsAnnotation, reached_checks, failed_at, fault_from, fault_of}
-use Rattle.verifier_spec.specs.JoinedStates.{with_edge, with_edges, if_passed, with_instruction, known_after}
-use Rattle.verifier_spec.specs.JoinedStates.{joined_states}
+use Rattle.verifier_spec.specs.Annotation.{IsAnnotation, reached_checks, failed_at, fault_of}
+use Rattle.verifier_spec.specs.JoinedStates.{known_after, joined_states}
 use Rattle.verifier_spec.proofs.Annotations.{none_of_three, covering, there, and_second}
 use Rattle.verifier_spec.proofs.Faults.{Passes, first_of-reported, first_of-append, at_passes, none_from_each}
-use Rattle.verifier_spec.proofs.Faults.{first_is_other, or_is_other}
-use Rattle.verifier_spec.proofs.JoinedStates.{covered_refl, covered_trans, edge_least, grows_to, falls_known}
-use Rattle.verifier_spec.proofs.JoinedStates.{jumps_known, length-joined_states, claim_joined}
+use Rattle.verifier_spec.proofs.Faults.{first_is_other, found_in_code}
+use Rattle.verifier_spec.proofs.JoinedStates.{covered_refl, covered_trans, BringsWithin, known_least, grows_to}
+use Rattle.verifier_spec.proofs.JoinedStates.{falls_known, jumps_known, length-joined_states, claim_joined}
 use Rattle.verifier_spec.proofs.Monotone.{check_monotone, falls_monotone, jumps_monotone}
 
 -- the joined states are in their ranges
@@ -34,39 +34,24 @@ AreJoinedProper helpers code = (k : ℕ) (s : Abstract) → k < length code → 
 
 module _ (helpers : List Helper) (code : List Placed) (claims : Claims) (annotation : IsAnnotation helpers code claims)
     (proper : AreJoinedProper helpers code) where
-  edges_below : (j k : ℕ) (placed : Placed) (s t : Abstract) (known : Option Abstract) →
-      slice_get code k ≡ Some placed → claim_at claims k ≡ Some t → is_proper s ≡ true → is_within s t ≡ true →
-      is_edge_covered known (claim_at claims j) ≡ true →
-      is_edge_covered (with_edges code j k placed s known) (claim_at claims j) ≡ true
-  edges_below j k placed s t known at claimed ps within h =
-      let i = placed.instruction in
-      let target = target_of code placed.slot (jump_of i) in
-      let passed = annotation.checked k placed t at claimed in
-      let pt = annotation.proper k t claimed in
-      let closed = and_parts (is_edge_covered (falls_to i t) (claim_at claims (k + 1)))
-      (is_edge_covered (jumps_to i t) (claim_of claims target)) (annotation.closed k placed t at claimed) in
-      let falls = covered_trans (falls_to i s) (falls_to i t) (claim_at claims (k + 1))
-      (falls_monotone helpers i s t within ps pt passed) closed.0 in
-      let jumps = covered_trans (jumps_to i s) (jumps_to i t) (claim_of claims target)
-      (jumps_monotone helpers i s t within ps pt passed) closed.1 in
-      edge_least j target (jumps_to i s) (with_edge j (Some (k + 1)) (falls_to i s) known) (claim_at claims j)
-      (edge_least j (Some (k + 1)) (falls_to i s) known (claim_at claims j) h
-      (λ same. cc)) (λ same. cc)
-
-  step_below : (j k : ℕ) (at : Option Placed) (own known : Option Abstract) → slice_get code k ≡ at →
-      known_after helpers code k k ≡ own → is_edge_covered own (claim_at claims k) ≡ true →
-      is_edge_covered known (claim_at claims j) ≡ true →
-      is_edge_covered (with_instruction helpers code j k at own known) (claim_at claims j) ≡ true
-  step_below j k (Some placed) (Some s) known at is below h =
-      let outer = covering s (claim_at claims k) below in
-      let edges = edges_below j k placed s outer.0 known at outer.1 (proper k s (slice_get_within code k placed at) is)
-      outer.2 h in
-      elim (failed_check helpers placed.instruction s) as (λ failed. is_edge_covered
-      (if_passed failed known (with_edges code j k placed s known)) (claim_at claims j) ≡ true) [
-        | Some _ ↦ h
-        | None ↦ edges
-      ]
-  step_below j k placed own known at is below h = h
+  brings_within : (i j : ℕ) (placed : Placed) (s : Abstract) → slice_get code i ≡ Some placed →
+      known_after helpers code i i ≡ Some s → is_edge_covered (Some s) (claim_at claims i) ≡ true →
+      BringsWithin helpers code j (claim_at claims j) i placed s
+  brings_within i j placed s at known below =
+      let outer = covering s (claim_at claims i) below in
+      let instruction = placed.instruction in
+      let target = target_of code placed.slot (jump_of instruction) in
+      let passed = annotation.checked i placed outer.0 at outer.1 in
+      let ps = proper i s (slice_get_within code i placed at) known in
+      let pt = annotation.proper i outer.0 outer.1 in
+      let closed = and_parts (is_edge_covered (falls_to instruction outer.0) (claim_at claims (i + 1)))
+      (is_edge_covered (jumps_to instruction outer.0) (claim_of claims target))
+      (annotation.closed i placed outer.0 at outer.1) in
+      let falls = covered_trans (falls_to instruction s) _ (claim_at claims (i + 1))
+      (falls_monotone helpers instruction s outer.0 outer.2 ps pt passed) closed.0 in
+      let jumps = covered_trans (jumps_to instruction s) _ (claim_of claims target)
+      (jumps_monotone helpers instruction s outer.0 outer.2 ps pt passed) closed.1 in
+      record { falls = λ next. rw next at falls; jumps = λ is. rw is at jumps }
 
   first_below : (j : ℕ) → is_edge_covered (known_after helpers code 0 j) (claim_at claims j) ≡ true
   unfolding known_after
@@ -75,11 +60,15 @@ module _ (helpers : List Helper) (code : List Placed) (claims : Claims) (annotat
     | inr later ↦ rw later
   ]
 
+  below_to : (n k j : ℕ) → k ≤ n → is_edge_covered (known_after helpers code k j) (claim_at claims j) ≡ true
+  below_to zero k j le =
+      known_least helpers code j (claim_at claims j) k (first_below j) (λ i placed s under. absurd (omega arith))
+  below_to (suc n) k j le =
+      known_least helpers code j (claim_at claims j) k (first_below j) (λ i placed s under at known passed.
+      brings_within i j placed s at known (rw known at (below_to n i i (omega arith))))
+
   pub known_below : (k j : ℕ) → is_edge_covered (known_after helpers code k j) (claim_at claims j) ≡ true
-  unfolding known_after
-  known_below zero j = first_below j
-  known_below (suc k) j = step_below j k (slice_get code k) (known_after helpers code k k)
-      (known_after helpers code k j) refl refl (known_below k k) (known_below k j)
+  known_below k j = below_to k k j (omega arith)
 
 -- ---- which checks a list of checks names
 
@@ -98,19 +87,9 @@ either_is_other xs ys (Some c) kind is here there e =
     cc
 either_is_other xs ys None kind is here there e = there is (sym (first_of-append xs ys is) ∙ e)
 
-shape_is_other : (code : List Placed) (k : ℕ) (placed : Placed) (kind : Check) →
-    first_of (shape_checks code k placed) ≡ Some kind → is_claims kind ≡ false
-unfolding is_claims
-shape_is_other code k placed kind e = first_is_other is_claims (shape_checks code k placed) kind refl e
-
-check_is_other : (helpers : List Helper) (i : Instruction) (s : Abstract) (kind : Check) →
-    first_of (checks helpers (summary_of i) s) ≡ Some kind → is_claims kind ≡ false
-unfolding is_claims
-check_is_other helpers i s kind e = first_is_other is_claims (checks helpers (summary_of i) s) kind refl e
-
-last_holds : (holds : Bool) (kind other : Check) → holds ≡ true → first_of ((not holds, other) ∷ []) ≡ Some kind →
+last_is_other : (holds : Bool) (kind : Check) → holds ≡ true → first_of ((not holds, check.Notes) ∷ []) ≡ Some kind →
     is_claims kind ≡ false
-last_holds holds kind other h e = cc
+last_is_other holds kind h e = cc
 
 -- the entry state is the first joined state
 start_covered : (helpers : List Helper) (code : List Placed) → 0 < length code →
@@ -130,16 +109,11 @@ none_falls (Jump distance) s o e = refl
 none_falls Exit s o e = refl
 none_falls i s o e = cc
 
-no_jump : (i : Instruction) (s : Abstract) (o : Option Abstract) → jump_of i ≡ None →
-    is_edge_covered (jumps_to i s) o ≡ true
-unfolding jumps_to
-no_jump i s o e = rw e
-
 module _ (helpers : List Helper) (image : List ℕ) (code : List Placed) (is_code : IsCodeOf image code) where
   -- a jump leads further on, to an instruction
   pub target_later : (k : ℕ) (placed : Placed) (jump : Option ℤ) (t : ℕ) → slice_get code k ≡ Some placed →
       target_of code placed.slot jump ≡ Some t → (k < t) × (t < length code)
-  target_later k placed None t at e = absurd (none-some t e)
+  target_later k placed None t at e = cc
   target_later k placed (Some offset) t at e =
       let there = lands code placed.slot offset t e in (
         later_number image code is_code _ _ _ _ (number_of_placed image code is_code _ _ at)
@@ -184,7 +158,8 @@ module _ (helpers : List Helper) (image : List ℕ) (code : List Placed) (is_cod
       jump_closed : (jump : Option ℤ) → jump_of placed.instruction ≡ jump →
           is_edge_covered (jumps_to placed.instruction s) (claim_of (joined_states helpers code)
           (target_of code placed.slot jump)) ≡ true
-      jump_closed None is = no_jump placed.instruction s None is
+      unfolding jumps_to
+      jump_closed None is = rw is
       jump_closed (Some offset) is =
           let nowhere = rw is at shapes.0 in
           let forward = rw is at shapes.1 in
@@ -217,19 +192,14 @@ module _ (helpers : List Helper) (image : List ℕ) (code : List Placed) (is_cod
                 (joined_passes k placed s at (sym is ∙ claimed)) (annotation.shape k placed at);
           }
 
-      none_failed : (i : ℕ) (placed : Placed) → slice_get code i ≡ Some placed →
-          failed_at helpers code (joined_states helpers code) (0 + i) placed ≡ None
-      none_failed i placed at =
-          let same : 0 + i ≡ i = omega arith in
-          let none = at_passes helpers code (joined_states helpers code) i placed (instruction_passes i placed at) in
-          cc
-
       -- the joined states have no fault
       pub no_fault : 0 < length code → fault_of helpers code (joined_states helpers code) ≡ None
       unfolding fault_of
       no_fault some =
           let start = start_covered helpers code some in
-          let none = none_from_each helpers code (joined_states helpers code) 0 code none_failed in
+          let joined = joined_states helpers code in
+          let none = none_from_each helpers code joined 0 code (λ i placed at.
+          rw zero-add (at_passes helpers code joined i placed (instruction_passes i placed at))) in
           cc
 
   -- ---- no refusal of the joined states is that they are no annotation
@@ -239,43 +209,31 @@ module _ (helpers : List Helper) (image : List ℕ) (code : List Placed) (is_cod
       first_of (shape_checks code k placed) ≡ None →
       first_of (reached_checks helpers code (joined_states helpers code) k placed claim) ≡ Some kind →
       is_claims kind ≡ false
-  unfolding failed_check
-  reached_is_other k placed None kind at known shape e = absurd (none-some kind e)
+  unfolding failed_check is_claims
+  reached_is_other k placed None kind at known shape e = cc
   reached_is_other k placed (Some s) kind at known shape e =
       let rows = checks helpers (summary_of placed.instruction) s in
       let closed = are_edges_covered code (joined_states helpers code) k placed s in
       either_is_other rows ((not closed, check.Notes) ∷ []) (first_of rows) kind refl
-      (check_is_other helpers placed.instruction s)
-      (λ passed last. last_holds closed kind check.Notes (edges_closed k placed s at known passed shape) last) e
+      (λ c. first_is_other is_claims rows c refl)
+      (λ passed. last_is_other closed kind (edges_closed k placed s at known passed shape)) e
 
   failed_is_other : (k : ℕ) (placed : Placed) → slice_get code k ≡ Some placed → (kind : Check) →
       failed_at helpers code (joined_states helpers code) k placed ≡ Some kind → is_claims kind ≡ false
-  unfolding failed_at
+  unfolding failed_at is_claims
   failed_is_other k placed at kind e =
       let claim = claim_at (joined_states helpers code) k in
       let is = claim_joined helpers code k (slice_get_within _ _ _ at) in
       either_is_other (shape_checks code k placed) (reached_checks helpers code (joined_states helpers code) k placed
       claim) (first_of (shape_checks code k placed)) kind refl
-      (shape_is_other code k placed) (λ shape reached. reached_is_other k placed claim kind at (sym is) shape reached) e
-
-  from_is_other : (k : ℕ) (rest : List Placed) (f : VerifyFault) →
-      ((i : ℕ) (placed : Placed) → slice_get rest i ≡ Some placed → slice_get code (k + i) ≡ Some placed) →
-      fault_from helpers code (joined_states helpers code) k rest ≡ Some f → is_claims f.kind ≡ false
-  from_is_other k [] f all e = absurd (none-some f e)
-  from_is_other k (placed ∷ rest) f all e =
-      let here : k + 0 ≡ k = omega arith in
-      let first = all 0 placed refl in
-      let at : slice_get code k ≡ Some placed = cc in
-      or_is_other is_claims k _ _ f (failed_is_other k placed at) (from_is_other (k + 1) rest f (λ i p q.
-      let next : k + suc i ≡ (k + 1) + i = omega arith in
-      let there = all (suc i) p q in
-      cc))
-      e
+      (λ c. first_is_other is_claims (shape_checks code k placed) c refl)
+      (λ shape. reached_is_other k placed claim kind at (sym is) shape) e
 
   pub fault_is_other : (f : VerifyFault) → 0 < length code →
       fault_of helpers code (joined_states helpers code) ≡ Some f → f.kind ≢ check.Notes
   unfolding fault_of is_claims
   fault_is_other f some e is =
       let start = start_covered helpers code some in
-      let other = from_is_other 0 code f (λ i placed at. let same : 0 + i ≡ i = omega arith in cc) (cc) in
+      let found = found_in_code helpers code (joined_states helpers code) f (cc) in
+      let other = failed_is_other f.pc found.placed found.at f.kind found.failed in
       cc

@@ -1,11 +1,10 @@
 -- The joined states: they are within every annotation's, and an annotation themselves where there is one.
-use Rattle.std.proofs.Common.{◌≡◌, ℕ, zero, suc, ◌+◌, ◌<◌, ◌≤◌, true, ◌==◌, List, [], ◌∷◌, length}
-use Rattle.std.proofs.Common.{slice_get, Option, Some, None, refl, ap, inl, inr, arith}
+use Rattle.std.proofs.Common.{◌≡◌, ℕ, zero, suc, ◌+◌, ◌<◌, ◌≤◌, true, ◌==◌, List, [], ◌∷◌, length, slice_get, Option}
+use Rattle.std.proofs.Common.{Some, None, refl, ap, inl, inr, arith}
 use Rattle.std.proofs.lemmas.Bool.{cases_Bool, cases_eq, eq-eqb, eqb-true}
 use Rattle.machine_spec.specs.{declared.helper.Helper.Helper, declared.instruction.Placed.Placed, Image.target_of}
-use Rattle.verifier_spec.specs.declared.{state.Abstract.Abstract, fault.Check.Check}
 use Rattle.verifier_spec.specs.{Checks.failed_check, Checks.jump_of, Transfer.falls_to, Transfer.jumps_to}
-use Rattle.verifier_spec.specs.{Annotation.claim_at, Annotation.is_edge_covered}
+use Rattle.verifier_spec.specs.{Annotation.claim_at, Annotation.is_edge_covered, declared.state.Abstract.Abstract}
 use Rattle.verifier_spec.specs.JoinedStates.{joined_claims, with_edge, with_edges, if_passed, with_instruction}
 use Rattle.verifier_spec.specs.JoinedStates.{known_after, states_from, joined_states}
 use Rattle.verifier_spec.proofs.Joins.{within_refl, within_trans, within_joined_left, within_joined_right, joined_least}
@@ -138,20 +137,18 @@ module _ (helpers : List Helper) (code : List Placed) (j : ℕ) (outer : Option 
       (edge_least j (Some (k + 1)) (falls_to placed.instruction s) known outer h (λ e. propagates.falls (cc)))
       propagates.jumps
 
-  passed_least : (k : ℕ) (placed : Placed) (s : Abstract) (known : Option Abstract) (failed : Option Check) →
-      failed_check helpers placed.instruction s ≡ failed → is_edge_covered known outer ≡ true →
-      (failed_check helpers placed.instruction s ≡ None → BringsWithin k placed s) →
-      is_edge_covered (if_passed failed known (with_edges code j k placed s known)) outer ≡ true
-  passed_least k placed s known (Some _) is h propagates = h
-  passed_least k placed s known None is h propagates = edges_least k placed s known h (propagates is)
-
   instruction_least : (k : ℕ) (at : Option Placed) (own known : Option Abstract) → slice_get code k ≡ at →
       known_after helpers code k k ≡ own → is_edge_covered known outer ≡ true →
       ((placed : Placed) (s : Abstract) → slice_get code k ≡ Some placed → known_after helpers code k k ≡ Some s →
       failed_check helpers placed.instruction s ≡ None → BringsWithin k placed s) →
       is_edge_covered (with_instruction helpers code j k at own known) outer ≡ true
   instruction_least k (Some placed) (Some s) known at is h propagates =
-      passed_least k placed s known (failed_check helpers placed.instruction s) refl h (propagates placed s at is)
+      let checked = failed_check helpers placed.instruction s in
+      elim checked as (λ failed. checked ≡ failed →
+      is_edge_covered (if_passed failed known (with_edges code j k placed s known)) outer ≡ true) [
+        | Some _ ↦ λ failed. h
+        | None ↦ λ passed. edges_least k placed s known h (propagates placed s at is passed)
+      ] refl
   instruction_least k placed own known at is h propagates = h
 
   -- What is known of an instruction is within each claim that the entry, if it is the first, and all that edges of

@@ -1,8 +1,8 @@
 -- The join of two states: both are within it, and it is within each state that both are within.
-use Rattle.std.proofs.Common.{◌≡◌, ℕ, zero, suc, ◌+◌, ◌<◌, ℤ, min, max, true, List, [], ◌∷◌, length, get_or, set, refl}
-use Rattle.std.proofs.Common.{sym, ◌∙◌, inl, inr, arith}
-use Rattle.std.specs.{Int.int_min, Int.int_max, List.list_all}
-use Rattle.std.proofs.lemmas.Bool.{and_parts, and_from, cases_Bool, cases_eq}
+use Rattle.std.proofs.Common.{◌≡◌, ℕ, zero, suc, ◌+◌, ◌<◌, min, true, List, [], ◌∷◌, length, get_or, set, refl, sym}
+use Rattle.std.proofs.Common.{◌∙◌, inl, inr, arith}
+use Rattle.std.specs.{List.list_all}
+use Rattle.std.proofs.lemmas.Bool.{and_parts, and_from, cases_eq}
 use Rattle.std.proofs.{lemmas.Int.ints, lemmas.List.get_or-set_same, lemmas.List.get_or-set_other}
 use Rattle.wire_spec.specs.declared.limits.TheConstants.{MAX_KEY, MAX_VALUE}
 use Rattle.machine_spec.specs.declared.instruction.Region.{Region}
@@ -13,9 +13,8 @@ use Rattle.verifier_spec.specs.declared.state.Abs.TheVariants as abs
 use Rattle.verifier_spec.specs.Kinds.{kind_at, length_range, same_region, is_proper_kind, is_kind_within}
 use Rattle.verifier_spec.specs.Joins.{joined_kind, pairwise, joined_state, IsLeastAbove}
 use Rattle.verifier_spec.proofs.Order.{narrower_from, within_parts, within_from, region_is}
-use Rattle.verifier_spec.proofs.Proper.{proper_parts, proper_from, length_range_order, length_range_limit}
-use Rattle.verifier_spec.proofs.Ranges.{range_refl, range_trans, range_left, range_right, range_least}
-use Rattle.verifier_spec.proofs.Ranges.{joined_range_proper}
+use Rattle.verifier_spec.proofs.Proper.{proper_parts, proper_from, length_range_order, length_range_limit, range_refl}
+use Rattle.verifier_spec.proofs.Proper.{range_trans, range_left, range_right, range_least, joined_range_proper}
 use Rattle.verifier_spec.proofs.{StackSets.in_both, StackSets.in_intersection, Wider.kind_within_narrower}
 use Rattle.verifier_spec.proofs.Wider.{same_as_itself}
 
@@ -48,17 +47,12 @@ kind_within_trans : (a : Abstract) (j k l : Abs) → is_kind_within a j k ≡ tr
     is_kind_within a j l ≡ true
 kind_within_trans a j k abs.None h g = refl
 kind_within_trans a j abs.None l h g = cc
-kind_within_trans a (abs.Num x y) (abs.Num l m) (abs.Num lo hi) h g =
-    range_trans (lengths_from_to x y) (lengths_from_to l m) (lengths_from_to lo hi) h g
-kind_within_trans a (abs.Len x) (abs.Num l m) (abs.Num lo hi) h g =
-    range_trans (length_range a x) (lengths_from_to l m) (lengths_from_to lo hi) h g
-kind_within_trans a (abs.Len x) (abs.Len q) (abs.Num lo hi) h g =
-    rw (region_is x q h) g
+kind_within_trans a (abs.Num x y) (abs.Num l m) (abs.Num lo hi) h g = grind arith
+kind_within_trans a (abs.Len x) (abs.Num l m) (abs.Num lo hi) h g = grind arith
+kind_within_trans a (abs.Len x) (abs.Len q) (abs.Num lo hi) h g = rw (region_is x q h) g
 kind_within_trans a (abs.Len x) (abs.Len q) (abs.Len at) h g = region_trans x q at h g
 kind_within_trans a (abs.Addr x y z) (abs.Addr q l m) (abs.Addr at lo hi) h g =
-    let p = and_parts _ _ h in
-    let u = and_parts _ _ g in
-    and_from _ _ (region_trans x q at p.0 u.0) (grind (arith, ints))
+    grind (arith, ints, region_trans)
 kind_within_trans a j k l h g = cc
 
 pub within_trans : (a b c : Abstract) → is_within a b ≡ true → is_within b c ≡ true → is_within a c ≡ true
@@ -128,60 +122,36 @@ length_range_joined a b at = refl
 
 module _ (a b : Abstract) where
   pub kind_left : (j k : Abs) → is_kind_within a j (joined_kind a b j k) ≡ true
-  kind_left (abs.Num x y) (abs.Num lo hi) = range_left (lengths_from_to x y) (lengths_from_to lo hi)
-  kind_left (abs.Num x y) (abs.Len at) = range_left (lengths_from_to x y) (length_range b at)
-  kind_left (abs.Len at) (abs.Num lo hi) = range_left (length_range a at) (lengths_from_to lo hi)
-  kind_left (abs.Len at) (abs.Len other) = elim (cases_Bool (same_region at other)) [
-    | inl same ↦ rw same (same_as_itself at)
-    | inr apart ↦ rw apart (range_left (length_range a at) (length_range b other))
-  ]
-  kind_left (abs.Addr at lo hi) (abs.Addr other low high) = elim (cases_Bool (same_region at other)) [
-    | inl same ↦ rw same (and_from _ _ (same_as_itself at) (grind (arith, ints)))
-    | inr apart ↦ rw apart
-  ]
+  kind_left (abs.Num x y) (abs.Num lo hi) = grind arith
+  kind_left (abs.Num x y) (abs.Len at) = grind arith
+  kind_left (abs.Len at) (abs.Num lo hi) = grind arith
+  kind_left (abs.Len at) (abs.Len other) = grind (arith, same_as_itself)
+  kind_left (abs.Addr at lo hi) (abs.Addr other low high) = grind (arith, ints, same_as_itself)
   kind_left j k = refl
 
   pub kind_right : (j k : Abs) → is_kind_within b k (joined_kind a b j k) ≡ true
-  kind_right (abs.Num x y) (abs.Num lo hi) = range_right (lengths_from_to x y) (lengths_from_to lo hi)
-  kind_right (abs.Num x y) (abs.Len at) = range_right (lengths_from_to x y) (length_range b at)
-  kind_right (abs.Len at) (abs.Num lo hi) = range_right (length_range a at) (lengths_from_to lo hi)
-  kind_right (abs.Len at) (abs.Len other) = elim (cases_Bool (same_region at other)) [
-    | inl same ↦ rw same (region_sym at other same)
-    | inr apart ↦ rw apart (range_right (length_range a at) (length_range b other))
-  ]
-  kind_right (abs.Addr at lo hi) (abs.Addr other low high) = elim (cases_Bool (same_region at other)) [
-    | inl same ↦ rw same (and_from _ _ (region_sym at other same) (grind (arith, ints)))
-    | inr apart ↦ rw apart
-  ]
+  kind_right (abs.Num x y) (abs.Num lo hi) = grind arith
+  kind_right (abs.Num x y) (abs.Len at) = grind arith
+  kind_right (abs.Len at) (abs.Num lo hi) = grind arith
+  kind_right (abs.Len at) (abs.Len other) = grind (arith, region_sym)
+  kind_right (abs.Addr at lo hi) (abs.Addr other low high) = grind (arith, ints, region_sym)
   kind_right j k = refl
-
-  -- a length is within an interval in the join where it is in both states
-  length_least : (at : Region) (lo hi : ℕ) → is_kind_within a (abs.Len at) (abs.Num lo hi) ≡ true →
-      is_kind_within b (abs.Len at) (abs.Num lo hi) ≡ true →
-      is_kind_within (joined_state a b) (abs.Len at) (abs.Num lo hi) ≡ true
-  length_least at lo hi h g =
-      rw (length_range_joined a b at)
-      (range_least (length_range a at) (length_range b at) (lengths_from_to lo hi) h g)
 
   pub kind_least : (j k l : Abs) → is_kind_within a j l ≡ true → is_kind_within b k l ≡ true →
       is_kind_within (joined_state a b) (joined_kind a b j k) l ≡ true
   kind_least j k abs.None h g = refl
-  kind_least (abs.Num x y) (abs.Num low high) (abs.Num lo hi) h g =
-      range_least (lengths_from_to x y) (lengths_from_to low high) (lengths_from_to lo hi) h g
-  kind_least (abs.Num x y) (abs.Len at) (abs.Num lo hi) h g =
-      range_least (lengths_from_to x y) (length_range b at) (lengths_from_to lo hi) h g
-  kind_least (abs.Len at) (abs.Num low high) (abs.Num lo hi) h g =
-      range_least (length_range a at) (lengths_from_to low high) (lengths_from_to lo hi) h g
-  kind_least (abs.Len at) (abs.Len other) (abs.Num lo hi) h g = elim (cases_Bool (same_region at other)) [
-    | inl same ↦ rw same (length_least at lo hi h (rw (region_is at other same) g))
-    | inr apart ↦ rw apart (range_least (length_range a at) (length_range b other) (lengths_from_to lo hi) h g)
-  ]
+  kind_least (abs.Num x y) (abs.Num low high) (abs.Num lo hi) h g = grind arith
+  kind_least (abs.Num x y) (abs.Len at) (abs.Num lo hi) h g = grind arith
+  kind_least (abs.Len at) (abs.Num low high) (abs.Num lo hi) h g = grind arith
+  kind_least (abs.Len at) (abs.Len other) (abs.Num lo hi) h g =
+      let joined = length_range_joined a b at in
+      let is = region_is at other in
+      grind arith
   kind_least (abs.Len at) (abs.Len other) (abs.Len to) h g =
       rw (region_trans at to other h (region_sym other to g)) h
   kind_least (abs.Addr at x y) (abs.Addr other low high) (abs.Addr to lo hi) h g =
-      let p = and_parts _ _ h in
-      let q = and_parts _ _ g in
-      rw (region_trans at to other p.0 (region_sym other to q.0)) (and_from _ _ p.0 (grind (arith, ints)))
+      rw (region_is at to (and_parts _ _ h).0, region_is other to (and_parts _ _ g).0, same_as_itself to)
+      (grind (arith, ints))
   kind_least j k l h g = cc
 
 -- ---- the join of two states
@@ -219,10 +189,6 @@ joined_least a b c h g =
 
 -- ---- the join of two states in their ranges is in its ranges
 
-hull_proper : (x y low high : ℕ) → is_proper_kind (abs.Num x y) ≡ true → is_proper_kind (abs.Num low high) ≡ true
-    → is_proper_kind (abs.Num (min x low) (max y high)) ≡ true
-hull_proper x y low high h g = grind arith
-
 -- the view of a length is an interval in its range
 view_proper : (a : Abstract) (at : Region) → is_proper a ≡ true →
     is_proper_kind (abs.Num (length_range a at).min (length_range a at).max) ≡ true
@@ -231,29 +197,15 @@ view_proper a at h =
     let limit = length_range_limit a at h in
     grind arith
 
-addresses_proper : (at other : Region) (lo hi low high : ℤ) → is_proper_kind (abs.Addr at lo hi) ≡ true →
-    is_proper_kind (abs.Addr other low high) ≡ true →
-    is_proper_kind (abs.Addr at (int_min lo low) (int_max hi high)) ≡ true
-addresses_proper at other lo hi low high h g = grind (arith, ints)
-
 module _ (a b : Abstract) (p : is_proper a ≡ true) (q : is_proper b ≡ true) where
   kind_proper : (j k : Abs) → is_proper_kind j ≡ true → is_proper_kind k ≡ true →
       is_proper_kind (joined_kind a b j k) ≡ true
-  kind_proper (abs.Num x y) (abs.Num lo hi) h g = hull_proper x y lo hi h g
-  kind_proper (abs.Num x y) (abs.Len at) h g =
-      hull_proper x y (length_range b at).min (length_range b at).max h (view_proper b at q)
-  kind_proper (abs.Len at) (abs.Num lo hi) h g =
-      hull_proper (length_range a at).min (length_range a at).max lo hi (view_proper a at p) g
-  kind_proper (abs.Len at) (abs.Len other) h g = elim (cases_Bool (same_region at other)) [
-    | inl same ↦ rw same h
-    | inr apart ↦
-        rw apart (hull_proper (length_range a at).min (length_range a at).max (length_range b other).min
-        (length_range b other).max (view_proper a at p) (view_proper b other q))
-  ]
-  kind_proper (abs.Addr at lo hi) (abs.Addr other low high) h g = elim (cases_Bool (same_region at other)) [
-    | inl same ↦ rw same (addresses_proper at other lo hi low high h g)
-    | inr apart ↦ rw apart
-  ]
+  kind_proper (abs.Num x y) (abs.Num lo hi) h g = grind arith
+  kind_proper (abs.Num x y) (abs.Len at) h g = let view = view_proper b at q in grind arith
+  kind_proper (abs.Len at) (abs.Num lo hi) h g = let view = view_proper a at p in grind arith
+  kind_proper (abs.Len at) (abs.Len other) h g =
+      let first = view_proper a at p in let second = view_proper b other q in grind arith
+  kind_proper (abs.Addr at lo hi) (abs.Addr other low high) h g = grind (arith, ints)
   kind_proper j k h g = refl
 
   kinds_proper : (js ks : List Abs) → list_all is_proper_kind js ≡ true → list_all is_proper_kind ks ≡ true

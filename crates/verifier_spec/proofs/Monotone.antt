@@ -1,20 +1,16 @@
 -- Checks and transfer keep the order of states: of two states, one within the other, the first passes each check that
 -- the second passes, and what an edge propagates from the first is within what it propagates from the second.
-use Rattle.std.proofs.Common.{◌≡◌, ℕ, zero, suc, ◌<◌, ◌≤◌, ℤ, pos, ◌+ℤ◌, ◌≤ℤ◌, Bool, true, false, not}
-use Rattle.std.proofs.Common.{List, [], ◌∷◌, length, get_or, Option, Some, None, unsigned_abs, ◌&&◌, refl, inl, inr}
-use Rattle.std.proofs.Common.{⊎_elim, arith}
+use Rattle.std.proofs.Common.{◌≡◌, ℕ, zero, suc, ◌<◌, ◌≤◌, ℤ, pos, ◌+ℤ◌, ◌≤ℤ◌, Bool, true, false, not, List, [], ◌∷◌}
+use Rattle.std.proofs.Common.{length, get_or, Option, Some, None, unsigned_abs, ◌&&◌, refl, inl, inr, ⊎_elim, arith}
 use Rattle.std.specs.{Ordering.int_eq, List.list_any, List.fold}
 use Rattle.std.proofs.{lemmas.Bool.Decides.Decides-int_eq, lemmas.Int.ints}
 use Rattle.std.proofs.lemmas.Bool.{and_parts, and_from, and_right, or_parts, not-false, not_from_true, cases_Bool}
-use Rattle.machine_spec.specs.declared.{instruction.Region.Region}
-use Rattle.machine_spec.specs.declared.{instruction.Size.Size, instruction.Extension.Extension, helper.Helper.Helper}
+use Rattle.machine_spec.specs.declared.{instruction.Region.Region, instruction.Size.Size, helper.Helper.Helper}
 use Rattle.machine_spec.specs.declared.{helper.Argument.Argument, instruction.Instruction.Instruction}
-use Rattle.machine_spec.specs.declared.{summary.Operands.Operands}
-use Rattle.machine_spec.specs.declared.{summary.MemoryOperand.MemoryOperand, summary.Condition.Condition}
-use Rattle.machine_spec.specs.declared.{summary.Summary.Summary, operation.Width.Width, instruction.Source.Source}
+use Rattle.machine_spec.specs.declared.{summary.Operands.Operands, summary.MemoryOperand.MemoryOperand}
+use Rattle.machine_spec.specs.declared.{summary.Condition.Condition, summary.Summary.Summary, operation.Width.Width}
+use Rattle.machine_spec.specs.declared.{instruction.Source.Source}
 use Rattle.machine_spec.specs.declared.operation.Width.TheVariants.{Bits32, Bits64}
-use Rattle.machine_spec.specs.declared.instruction.Size.TheVariants as size
-use Rattle.machine_spec.specs.declared.instruction.Extension.TheVariants.{Zero, Sign}
 use Rattle.machine_spec.specs.declared.helper.Argument.TheVariants as argument
 use Rattle.machine_spec.specs.declared.instruction.Instruction.TheVariants.{Move, Compute, Load, Unary, Store, JumpIf}
 use Rattle.machine_spec.specs.declared.instruction.Instruction.TheVariants.{Wide, Call}
@@ -25,25 +21,21 @@ use Rattle.machine_spec.specs.Traps.{helper_called, arguments_of, read_registers
 use Rattle.verifier_spec.specs.declared.{interval.Interval.Interval, state.Abs.Abs, state.StackSet.StackSet}
 use Rattle.verifier_spec.specs.declared.state.Abstract.{Abstract}
 use Rattle.verifier_spec.specs.declared.state.Abs.TheVariants as abs
-use Rattle.verifier_spec.specs.{Intervals.from_to, StackSets.is_set, Ranges.lengths_from_to, States.is_proper}
-use Rattle.verifier_spec.specs.{States.is_within, Annotation.is_edge_covered, Soundness.KeepsOrder}
-use Rattle.verifier_spec.specs.Kinds.{same_region, kind_at, range_of, is_unknown, is_number_kind, is_address_kind}
-use Rattle.verifier_spec.specs.Kinds.{is_proper_kind, is_kind_within}
-use Rattle.verifier_spec.specs.Checks.{source_kind, has_wrong_kinds, has_wrong_base_kind}
-use Rattle.verifier_spec.specs.Checks.{has_wrong_condition_kind, reach_at, reach_of, may_write_record}
-use Rattle.verifier_spec.specs.Checks.{named_reach, may_name_wrongly, is_whole}
+use Rattle.verifier_spec.specs.{Intervals.from_to, StackSets.is_set, States.is_proper, States.is_within}
+use Rattle.verifier_spec.specs.{Annotation.is_edge_covered, Soundness.KeepsOrder}
+use Rattle.verifier_spec.specs.Kinds.{kind_at, range_of, is_unknown, is_number_kind, is_address_kind, is_proper_kind}
+use Rattle.verifier_spec.specs.Kinds.{is_kind_within}
+use Rattle.verifier_spec.specs.Checks.{source_kind, has_wrong_kinds, has_wrong_base_kind, has_wrong_condition_kind}
+use Rattle.verifier_spec.specs.Checks.{reach_at, reach_of, may_write_record, named_reach, may_name_wrongly, is_whole}
 use Rattle.verifier_spec.specs.Checks.{is_wrong_argument_kind, may_exit_wrongly, failed_check}
-use Rattle.verifier_spec.specs.Transfer.{with_stored, with_room, with_argument, with_kind}
-use Rattle.verifier_spec.specs.Transfer.{loaded_kind, answer_kind, after_call_kinds, called_kinds, jump_edge, falls_to}
-use Rattle.verifier_spec.specs.Transfer.{jumps_to}
+use Rattle.verifier_spec.specs.Transfer.{with_stored, with_room, with_argument, with_kind, loaded_kind, answer_kind}
+use Rattle.verifier_spec.specs.Transfer.{after_call_kinds, called_kinds, jump_edge, falls_to, jumps_to}
 use Rattle.verifier_spec.proofs.Order.{IsWithin, within_parts, within_from, region_is}
 use Rattle.verifier_spec.proofs.Proper.{proper_parts, kind_at_proper, addr_order, number_if_ranged}
-use Rattle.verifier_spec.proofs.{Ranges.range_refl, Tighter.tested_within}
-use Rattle.verifier_spec.proofs.Safety.{Passes, passes, failed_from, none_kept}
-use Rattle.verifier_spec.proofs.Reaches.{AreReaches, at_reaches, IsRight, write_part, right_part, named_part}
-use Rattle.verifier_spec.proofs.Reaches.{room_kinds, room_part, whole_parts}
+use Rattle.verifier_spec.proofs.{Narrowing.tested_within, Whole.shift_le, Joins.kind_within_refl}
+use Rattle.verifier_spec.proofs.Safety.{Passes, passes, failed_from, none_kept, AreReaches, at_reaches, IsRight}
+use Rattle.verifier_spec.proofs.Safety.{write_part, right_part, named_part, room_kinds, room_part, whole_parts}
 use Rattle.verifier_spec.proofs.StackSets.{places_kept, places_set, places_only}
-use Rattle.verifier_spec.proofs.Whole.{shift_le}
 use Rattle.verifier_spec.proofs.Wider.{kind_within, known_within, AreAddresses, AreRanges, Narrows, register_narrows}
 use Rattle.verifier_spec.proofs.Wider.{source_narrows, can_within, computed_within, changed_within, low_half_within}
 use Rattle.verifier_spec.proofs.Wider.{source_within, within_set}
@@ -58,16 +50,10 @@ called_pairs P (j0 ∷ j1 ∷ j2 ∷ j3 ∷ j4 ∷ j5 ∷ js) (k0 ∷ k1 ∷ k2 
 called_pairs P (j0 ∷ j1 ∷ j2 ∷ j3 ∷ j4 ∷ j5 ∷ js) (k0 ∷ k1 ∷ k2 ∷ k3 ∷ k4 ∷ k5 ∷ ks) answer (suc q) d e h p n = n
 called_pairs P js ks answer q d e h p n = absurd (omega arith)
 
-number_kept : (c : Abstract) (low high : ℕ) → is_kind_within c (abs.Num low high) (abs.Num low high) ≡ true
-number_kept c low high = range_refl (lengths_from_to low high)
-
 -- bytes that are set stay so in a call
 room_keeps : (set : StackSet) (at : Region) (low high : ℤ) (range : Interval) (q : ℕ) → q < 512 → is_set set q ≡ true →
     is_set (with_room set (abs.Addr at low high) (Some range)) q ≡ true
-room_keeps set at low high range q inside h = elim (cases_Bool (is_stack at && int_eq low high)) [
-  | inl one ↦ rw one (places_kept set (unsigned_abs low) range.low q inside h)
-  | inr many ↦ rw many h
-]
+room_keeps set at low high range q inside h = grind (arith, places_kept)
 
 -- room at a narrower address that has as many bytes becomes set where that at a wider one does
 room_set : (inner outer : StackSet) (at : Region) (lo hi low high : ℤ) (part whole : Interval) →
@@ -94,10 +80,9 @@ whole_within : (a : Abstract) (j k : Abs) (at : Region) → is_proper_kind j ≡
     is_kind_within a j (abs.Addr at (pos 0) (pos 0)) ≡ true → is_kind_within a k (abs.Len at) ≡ true →
     is_whole j k ≡ true
 whole_within a (abs.Addr r lo hi) (abs.Len q) at p h k =
-    let s = and_parts (same_region r at) _ h in
+    let is = region_is q at k in
     let order = addr_order r lo hi p in
-    and_from _ _ (rw (region_is q at k) s.0) (and_from _ _ ((Decides-int_eq lo (pos 0)).1 (grind (arith, ints)))
-    ((Decides-int_eq hi (pos 0)).1 (grind (arith, ints))))
+    grind (arith, ints, Decides-int_eq)
 whole_within a j k at p h l = cc
 
 module _ (a b : Abstract) (w : IsWithin a b) (pa : is_proper a ≡ true) (pb : is_proper b ≡ true) where
@@ -193,12 +178,6 @@ module _ (a b : Abstract) (w : IsWithin a b) (pa : is_proper a ≡ true) (pb : i
   set_edge : (r : ℕ) (j k : Abs) → is_kind_within a j k ≡ true → is_within (with_kind a r j) (with_kind b r k) ≡ true
   set_edge r j k h = within_from _ _ (within_set a b w pa pb r j k h)
 
-  loaded_kept : (size : Size) (extension : Extension) →
-      is_kind_within a (loaded_kind size extension) (loaded_kind size extension) ≡ true
-  loaded_kept size Sign = refl
-  loaded_kept size.Byte Zero = refl
-  loaded_kept size extension = refl
-
   set_kept : (set outer : StackSet) → ((q : ℕ) → q < 512 → is_set outer q ≡ true → is_set set q ≡ true) →
       is_within (record a { set = set }) (record b { set = outer }) ≡ true
   set_kept set outer kept = within_from _ _ (assumption (w, kept))
@@ -252,7 +231,7 @@ module _ (a b : Abstract) (w : IsWithin a b) (pa : is_proper a ≡ true) (pb : i
       within_from _ _ (record {
         kinds = λ q low. called_pairs (λ j k. is_kind_within to j k ≡ true) a.registers b.registers (answer_kind helper)
             q (proper_parts a pa).eleven (proper_parts b pb).eleven
-            (w.kinds q low) (number_kept to 0 (signature_of helper).greatest) refl;
+            (w.kinds q low) (kind_within_refl to (answer_kind helper)) refl;
         lengths = w.lengths;
         set = arguments_set (signature_of helper).arguments c a.set b.set w.set;
       })
@@ -261,7 +240,7 @@ module _ (a b : Abstract) (w : IsWithin a b) (pa : is_proper a ≡ true) (pb : i
       is_edge_covered (falls_to i a) (falls_to i b) ≡ true
   unfolding falls_to
   falls_kept helpers (Move Bits64 dst source) h p =
-      set_edge dst (source_kind a Bits64 source) (source_kind b Bits64 source) (source_within a b w pa pb Bits64 source)
+      set_edge dst _ _ (source_within a b w pa pb Bits64 source)
   falls_kept helpers (Move Bits32 dst source) h p =
       set_edge dst _ _ (low_half_within a b (source_kind a Bits32 source) (source_kind b Bits32 source)
       ((source_narrows a b w pa pb Bits32 source).number (not-false _ p.operands)))
@@ -272,12 +251,12 @@ module _ (a b : Abstract) (w : IsWithin a b) (pa : is_proper a ≡ true) (pb : i
       set_edge dst _ _ (changed_within a b change (kind_at a src) (kind_at b src)
       ((narrows src).number (not-false _ p.operands)))
   falls_kept helpers (Load size extension dst base offset) h p =
-      set_edge dst (loaded_kind size extension) (loaded_kind size extension) (loaded_kept size extension)
+      set_edge dst _ _ (kind_within_refl a (loaded_kind size extension))
   falls_kept helpers (Store size base offset source) h p = store_edge size base offset (not-false _ p.base)
   falls_kept helpers (JumpIf width test dst source offset) h p =
       tested_within a b w pa pb width test false dst source h (and_parts _ _ (not-false _ p.condition)).0
   falls_kept helpers (Wide dst number) h p =
-      set_edge dst (abs.Num number number) (abs.Num number number) (number_kept a number number)
+      set_edge dst _ _ (kind_within_refl a (abs.Num number number))
   falls_kept helpers (Call number) h p = call_edge (helper_of number) p.argument
   falls_kept helpers i h p = refl
 

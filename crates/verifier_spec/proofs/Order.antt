@@ -1,27 +1,24 @@
 -- The order of abstract states, part by part: a wider state holds of whatever a narrower one does.
 use Rattle.std.proofs.Common.{◌≡◌, ℕ, zero, suc, ◌<◌, Bool, true, false, ◌||◌, not, refl, sym, ◌∙◌, ⊎_elim, arith}
-use Rattle.std.proofs.lemmas.Int.{ints}
-use Rattle.std.proofs.lemmas.Bool.{and_parts, and_from, cases_lt, cases_eq}
+use Rattle.std.proofs.lemmas.{Int.ints, Bool.and_parts, Bool.and_from, Bool.cases_lt}
 use Rattle.machine_spec.specs.declared.instruction.Region.{Region}
 use Rattle.machine_spec.specs.declared.instruction.Region.TheVariants as region
 use Rattle.machine_spec.specs.Values.{Value, Number, Address}
 use Rattle.machine_spec.specs.Machine.{Input, State, length_of}
 use Rattle.verifier_spec.specs.declared.{state.Abs.Abs, state.Abstract.Abstract}
 use Rattle.verifier_spec.specs.declared.state.Abs.TheVariants as abs
-use Rattle.verifier_spec.specs.{StackSets.is_set, Ranges.lengths_from_to, Ranges.is_range_within}
+use Rattle.verifier_spec.specs.{StackSets.is_set, Ranges.is_range_within}
 use Rattle.verifier_spec.specs.Kinds.{kind_at, length_range, same_region, is_kind_within}
 use Rattle.verifier_spec.specs.States.{each_below, is_proper, is_within}
 use Rattle.verifier_spec.specs.StandsFor.{HasKind, HasLengths, StandsFor}
-use Rattle.verifier_spec.proofs.{Proper.unknown_past, Ranges.in_wider, Ranges.range_part}
+use Rattle.verifier_spec.proofs.{Proper.unknown_past, Proper.in_wider}
 
 -- ---- tests of every number below one
 
 pub each_below_at : (n : ℕ) (test : ℕ → Bool) → each_below n test ≡ true → (k : ℕ) → k < n → test k ≡ true
 unfolding each_below
 each_below_at zero test h k low = absurd (omega arith)
-each_below_at (suc n) test h k low =
-    let p = and_parts _ _ h in
-    ⊎_elim (λ e. rw e p.1) (λ d. each_below_at n test p.0 k (omega arith)) (cases_eq k n)
+each_below_at (suc n) test h k low = grind (arith, each_below_at n test)
 
 pub each_below_from : (n : ℕ) (test : ℕ → Bool) → ((k : ℕ) → k < n → test k ≡ true) → each_below n test ≡ true
 unfolding each_below
@@ -45,9 +42,6 @@ pub record IsWithin (a b : Abstract) : Type 0 where
   pub lengths : IsNarrower a b
   pub set : (place : ℕ) → place < 512 → is_set b.set place ≡ true → is_set a.set place ≡ true
 
-set_if : (outer inner : Bool) → (not outer || inner) ≡ true → outer ≡ true → inner ≡ true
-set_if outer inner h e = cc
-
 set_from : (outer inner : Bool) → (outer ≡ true → inner ≡ true) → (not outer || inner) ≡ true
 set_from true inner h = h refl
 set_from false inner h = refl
@@ -61,17 +55,16 @@ within_parts a b h =
     record {
       kinds = each_below_at 11 (λ k. is_kind_within a (kind_at a k) (kind_at b k)) p.0;
       lengths = narrower_from a b q.0 r.0;
-      set = λ place low e. set_if (is_set b.set place) (is_set a.set place)
-          (each_below_at 512 (λ place. not (is_set b.set place) || is_set a.set place) r.1 place low) e;
+      set = λ place low e.
+          let kept = each_below_at 512 (λ q. not (is_set b.set q) || is_set a.set q) r.1 place low in cc;
     }
 
 pub within_from : (a b : Abstract) → IsWithin a b → is_within a b ≡ true
 unfolding is_within
 within_from a b w =
-    and_from _ _ (each_below_from 11 (λ k. is_kind_within a (kind_at a k) (kind_at b k)) w.kinds)
+    and_from _ _ (each_below_from 11 _ w.kinds)
     (and_from _ _ (w.lengths region.Key) (and_from _ _ (w.lengths region.Value)
-    (each_below_from 512 (λ place. not (is_set b.set place) || is_set a.set place)
-    (λ place low. set_from (is_set b.set place) (is_set a.set place) (w.set place low)))))
+    (each_below_from 512 _ (λ place low. set_from _ _ (w.set place low)))))
 
 -- ---- one kind within another
 
@@ -84,13 +77,8 @@ region_is a b h = cc
 pub kind_holds : (input : Input) (a : Abstract) (j k : Abs) (word : Value) → HasLengths input a →
     is_kind_within a j k ≡ true → HasKind input j word → HasKind input k word
 kind_holds input a j abs.None word l w h = tt
-kind_holds input a (abs.Num l m) (abs.Num lo hi) (Number n) ls w h =
-    let p = range_part (lengths_from_to l m) (lengths_from_to lo hi) w in
-    omega arith
-kind_holds input a (abs.Len r) (abs.Num lo hi) (Number n) l w h =
-    let p = range_part (length_range a r) (lengths_from_to lo hi) w in
-    let has = l r in
-    omega arith
+kind_holds input a (abs.Num l m) (abs.Num lo hi) (Number n) ls w h = (grind arith, grind arith)
+kind_holds input a (abs.Len r) (abs.Num lo hi) (Number n) l w h = let has = l r in (grind arith, grind arith)
 kind_holds input a (abs.Len r) (abs.Len q) word l w h = rw (← region_is r q w) h
 kind_holds input a (abs.Addr r lo hi) (abs.Addr q low high) (Address at x) ls w h =
     let p = and_parts _ _ w in
@@ -103,10 +91,8 @@ module _ (input : Input) (a b : Abstract) (s : State) (w : IsWithin a b) (p : is
     (h : StandsFor input a s) where
   register_stands : (r : ℕ) → HasKind input (kind_at b r) (s.registers r)
   register_stands r =
-      ⊎_elim
-      (λ low. kind_holds input a _ _ _ h.lengths (w.kinds r low) (h.registers r))
-      (λ past. rw (unknown_past b r p past) tt)
-      (cases_lt r 11)
+      ⊎_elim (λ low. kind_holds input a _ _ _ h.lengths (w.kinds r low) (h.registers r))
+      (λ past. rw (unknown_past b r p past) tt) (cases_lt r 11)
 
   pub within_stands : StandsFor input b s
   within_stands = record {

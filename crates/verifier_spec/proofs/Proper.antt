@@ -1,22 +1,72 @@
--- The ranges of abstract states, part by part, and what keeps them.
-use Rattle.std.proofs.Common.{◌≡◌, ℕ, zero, suc, ◌^◌, ◌<◌, ◌≤◌, ℤ, ◌≤ℤ◌, true, List, [], ◌∷◌, length, get_or, set, Some}
-use Rattle.std.proofs.Common.{IfSome, refl, sym, subst, ◌∙◌, arith, length-set}
+-- The ranges of lengths and of abstract states, part by part, and what keeps them.
+use Rattle.std.proofs.Common.{◌≡◌, ℕ, ◌≤◌, true, arith, zero, suc, ◌^◌, ◌<◌, ℤ, ◌≤ℤ◌, List, [], ◌∷◌, length, get_or}
+use Rattle.std.proofs.Common.{set, Some, IfSome, refl, sym, subst, ◌∙◌, length-set}
+use Rattle.verifier_spec.specs.declared.state.{Range.Range, Abs.Abs, Abstract.Abstract}
+use Rattle.verifier_spec.specs.Intervals.{IsIn, IsPartOf, from_to, IsRangeOf}
+use Rattle.verifier_spec.specs.Ranges.{interval_of, is_proper_range, is_range_within, joined_range}
 use Rattle.std.specs.List.{list_all}
-use Rattle.std.proofs.{lemmas.Int.ints, lemmas.Option.same_Some, lemmas.List.get_or_past}
+use Rattle.std.proofs.lemmas.{Int.ints, Option.same_Some, List.get_or_past}
 use Rattle.std.proofs.lemmas.Bool.{and_parts, and_from, eqb-true, eq-eqb}
 use Rattle.wire_spec.specs.declared.limits.TheConstants.{MAX_KEY, MAX_VALUE}
-use Rattle.machine_spec.specs.{declared.operation.Width.Width, declared.instruction.Source.Source}
-use Rattle.machine_spec.specs.{declared.instruction.Region.Region, Values.immediate}
-use Rattle.machine_spec.specs.declared.operation.Width.TheVariants.{Bits32, Bits64}
+use Rattle.machine_spec.specs.declared.operation.{Width.Width, Width.TheVariants.Bits32, Width.TheVariants.Bits64}
+use Rattle.machine_spec.specs.{declared.instruction.Source.Source, declared.instruction.Region.Region, Values.immediate}
 use Rattle.machine_spec.specs.declared.instruction.Source.TheVariants.{Register, Immediate}
 use Rattle.machine_spec.specs.declared.instruction.Region.TheVariants as region
-use Rattle.verifier_spec.specs.declared.{interval.Interval.Interval, state.Abs.Abs, state.Range.Range}
-use Rattle.verifier_spec.specs.declared.{state.StackSet.StackSet, state.Abstract.Abstract}
+use Rattle.verifier_spec.specs.declared.{interval.Interval.Interval, state.StackSet.StackSet}
 use Rattle.verifier_spec.specs.declared.state.Abs.TheVariants as abs
-use Rattle.verifier_spec.specs.{Intervals.from_to, Intervals.IsRangeOf, Checks.source_kind, Ranges.interval_of}
-use Rattle.verifier_spec.specs.{Ranges.is_proper_range, States.is_proper, Transfer.with_kind, Transfer.with_lengths}
+use Rattle.verifier_spec.specs.{Checks.source_kind, States.is_proper, Transfer.with_kind, Transfer.with_lengths}
 use Rattle.verifier_spec.specs.Kinds.{kind_at, length_range, range_of, is_number_kind, is_proper_kind}
-use Rattle.verifier_spec.proofs.Ranges.{IsProperRange, proper_ends, proper_from_ends}
+
+-- ---- what the tests say
+
+pub record IsProperRange (limit : ℕ) (range : Range) : Type 0 where
+  pub order : range.min ≤ range.max
+  pub limited : range.max ≤ limit
+
+pub proper_ends : (limit : ℕ) (range : Range) → is_proper_range limit range ≡ true → IsProperRange limit range
+proper_ends limit range h = record { order = grind arith; limited = grind arith }
+
+pub proper_from_ends : (limit : ℕ) (range : Range) → range.min ≤ range.max → range.max ≤ limit →
+    is_proper_range limit range ≡ true
+proper_from_ends limit range order limited = grind arith
+
+pub range_part : (inner outer : Range) → is_range_within inner outer ≡ true →
+    IsPartOf (interval_of inner) (interval_of outer)
+range_part inner outer h = record { low = grind arith; high = grind arith }
+
+pub range_from_part : (inner outer : Range) → outer.min ≤ inner.min → inner.max ≤ outer.max →
+    is_range_within inner outer ≡ true
+range_from_part inner outer low high = grind arith
+
+-- ---- their order
+
+pub range_refl : (a : Range) → is_range_within a a ≡ true
+range_refl a = grind arith
+
+pub range_trans : (a b c : Range) → is_range_within a b ≡ true → is_range_within b c ≡ true → is_range_within a c ≡ true
+range_trans a b c h g = grind arith
+
+-- a number in a range is in each that the range is within
+pub in_wider : (n : ℕ) (a b : Range) → is_range_within a b ≡ true → IsIn n (interval_of a) → IsIn n (interval_of b)
+in_wider n a b h has = record { low = grind arith; high = grind arith }
+
+-- ---- their join
+
+pub range_left : (a b : Range) → is_range_within a (joined_range a b) ≡ true
+range_left a b = grind arith
+
+pub range_right : (a b : Range) → is_range_within b (joined_range a b) ≡ true
+range_right a b = grind arith
+
+pub range_least : (a b c : Range) → is_range_within a c ≡ true → is_range_within b c ≡ true →
+    is_range_within (joined_range a b) c ≡ true
+range_least a b c h g = grind arith
+
+pub joined_range_proper : (limit : ℕ) (a b : Range) → is_proper_range limit a ≡ true → is_proper_range limit b ≡ true →
+    is_proper_range limit (joined_range a b) ≡ true
+joined_range_proper limit a b h g = grind arith
+
+-- ---- abstract states
 
 pub record IsProper (a : Abstract) : Type 0 where
   pub eleven : length a.registers ≡ 11
@@ -72,9 +122,7 @@ with_set_proper a set h =
 -- ---- registers past r10
 
 pub unknown_past : (a : Abstract) (r : ℕ) → is_proper a ≡ true → 11 ≤ r → kind_at a r ≡ abs.None
-unknown_past a r h past =
-    let e = (proper_parts a h).eleven in
-    get_or_past a.registers r abs.None (omega arith)
+unknown_past a r h past = let e = (proper_parts a h).eleven in get_or_past a.registers r abs.None (omega arith)
 
 -- ---- the parts of a kind's ranges
 
@@ -93,9 +141,9 @@ addr_order at lo hi h = grind (arith, ints)
 length_range_proper : (a : Abstract) (at : Region) → is_proper a ≡ true → IsProperRange MAX_VALUE (length_range a at)
 length_range_proper a region.Stack h = record { order = omega arith; limited = omega arith }
 length_range_proper a region.Key h =
-    let key = proper_ends _ _ (proper_parts a h).key in
-    record { order = key.order; limited = omega arith }
-length_range_proper a region.Value h = proper_ends _ _ (proper_parts a h).value
+    let p = proper_parts a h in record { order = grind arith; limited = grind arith }
+length_range_proper a region.Value h =
+    let p = proper_parts a h in record { order = grind arith; limited = grind arith }
 
 pub length_range_order : (a : Abstract) (at : Region) → is_proper a ≡ true →
     (length_range a at).min ≤ (length_range a at).max
@@ -110,12 +158,12 @@ pub with_lengths_proper : (a : Abstract) (at : Region) (range : Range) → is_pr
 with_lengths_proper a region.Stack range h order inside = h
 with_lengths_proper a region.Key range h order inside =
     let p = proper_parts a h in
-    let key = proper_ends MAX_KEY a.key p.key in
-    proper_from _ (assumption (proper_from_ends MAX_KEY range order (omega arith)))
+    let key : is_proper_range MAX_KEY range ≡ true = grind arith in
+    proper_from _ (assumption p)
 with_lengths_proper a region.Value range h order inside =
     let p = proper_parts a h in
-    let value = proper_ends MAX_VALUE a.value p.value in
-    proper_from _ (assumption (proper_from_ends MAX_VALUE range order (omega arith)))
+    let value : is_proper_range MAX_VALUE range ≡ true = grind arith in
+    proper_from _ (assumption p)
 
 -- ---- the numbers of a kind
 
@@ -128,17 +176,13 @@ pub record HasRange (a : Abstract) (kind : Abs) : Type 0 where
 pub range_at : (a : Abstract) (kind : Abs) → is_proper a ≡ true → is_proper_kind kind ≡ true →
     is_number_kind kind ≡ true → HasRange a kind
 range_at a (abs.Num lo hi) p q k =
-    record {
-      range = from_to lo hi;
-      is = refl;
-      proper = record { order = num_order lo hi q; limited = num_limit lo hi q };
-    }
+    record { range = from_to lo hi; is = refl; proper = record { order = grind arith; limited = grind arith } }
 range_at a (abs.Len r) p q k =
-    let limit = length_range_limit a r p in
+    let of = length_range_proper a r p in
     record {
       range = interval_of (length_range a r);
       is = refl;
-      proper = record { order = length_range_order a r p; limited = omega arith };
+      proper = record { order = of.order; limited = omega arith };
     }
 range_at a kind p q k = cc
 

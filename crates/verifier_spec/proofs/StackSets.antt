@@ -100,11 +100,8 @@ pub places_set : (set : StackSet) (from count q : ℕ) → q < 512 → from ≤ 
     is_set (with_places set from count) q ≡ true
 places_set set from zero q low above below = absurd (omega arith)
 places_set set from (suc count) q low above below =
-    ⊎_elim
-    (λ same. places_kept (with_place set from) (from + 1) count q low
-    (rw same (place_set set q low)))
-    (λ apart. places_set (with_place set from) (from + 1) count q low (omega arith) (omega arith))
-    (cases_eq from q)
+    ⊎_elim (λ same. places_kept (with_place set from) (from + 1) count q low (rw same (place_set set q low)))
+    (λ apart. places_set (with_place set from) (from + 1) count q low (omega arith) (omega arith)) (cases_eq from q)
 
 -- no others are
 pub places_only : (set : StackSet) (from count q : ℕ) → q < 512 → is_set (with_places set from count) q ≡ true
@@ -112,9 +109,6 @@ pub places_only : (set : StackSet) (from count q : ℕ) → q < 512 → is_set (
 places_only set from zero q low h = inl h
 places_only set from (suc count) q low h =
     ⊎_elim
-    (λ before. ⊎_elim
-    (λ same. inr (omega arith, omega arith))
-    (λ apart. inl (place_only set from q low apart before))
+    (λ before. ⊎_elim (λ same. inr (omega arith, omega arith)) (λ apart. inl (place_only set from q low apart before))
     (cases_eq q from))
-    (λ inside. inr (omega arith, omega arith))
-    (places_only (with_place set from) (from + 1) count q low h)
+    (λ inside. inr (omega arith, omega arith)) (places_only (with_place set from) (from + 1) count q low h)

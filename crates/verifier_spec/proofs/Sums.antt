@@ -1,7 +1,6 @@
 -- Operations on words against operations on kinds.
-use Rattle.std.proofs.Common.{◌≡◌, ℕ, ◌^◌, ◌<◌, ◌≤◌, ℤ, pos, ◌+ℤ◌, neg_ℤ, ◌≤ℤ◌, true, refl, ⊎_elim, arith, Some}
-use Rattle.std.proofs.lemmas.Bool.{ltb-true, leb-true, and_parts, and_from, or_cases}
-use Rattle.std.proofs.lemmas.Int.{ints}
+use Rattle.std.proofs.Common.{◌≡◌, ℕ, ◌^◌, ◌≤◌, ℤ, pos, ◌+ℤ◌, neg_ℤ, ◌≤ℤ◌, true, refl, arith, Some}
+use Rattle.std.proofs.lemmas.{Bool.and_parts, Bool.and_from, Int.ints}
 use Rattle.machine_spec.specs.declared.{operation.Width.Width, operation.Operation.Operation, operation.Change.Change}
 use Rattle.machine_spec.specs.declared.instruction.Region.{Region}
 use Rattle.machine_spec.specs.{Machine.Input, Arithmetic.signed, Arithmetic.changed_bits}
@@ -18,29 +17,18 @@ use Rattle.verifier_spec.specs.{States.is_proper, StandsFor.HasKind, StandsFor.H
 use Rattle.verifier_spec.specs.Checks.{is_one_sign, least_displacement, greatest_displacement, can_move}
 use Rattle.verifier_spec.specs.Checks.{can_compute_kinds}
 use Rattle.verifier_spec.specs.Transfer.{numbers, on_ranges, moved_address, moved_kind, computed_kind, changed_kind}
-use Rattle.verifier_spec.proofs.{Intervals.cut_has, Intervals.cut_range, RangesProper.result_proper}
-use Rattle.verifier_spec.proofs.{RangesProper.changed_proper, RangesSound.result_in, RangesSound.changed_in}
-use Rattle.verifier_spec.proofs.{Values.IsNumber, Values.at_number}
+use Rattle.verifier_spec.proofs.ComputedRanges.{result_in, result_proper, changed_in, changed_proper}
+use Rattle.verifier_spec.proofs.{Values.IsNumber, Values.at_number, ComputedRanges.cut_has, ComputedRanges.cut_range}
 use Rattle.verifier_spec.proofs.Proper.{addr_order, proper_range, HasRange, range_at}
-use Rattle.verifier_spec.proofs.Whole.{le_z-true, le-le_z, le_trans_z, add_le}
+use Rattle.verifier_spec.proofs.Whole.{le-le_z, le_trans_z, add_le}
 use Rattle.machine_spec.proofs.Results.{limit_le}
 
 -- ---- displacements
 
 -- read as signed, numbers on one side of 2^63 are in order
-signed_le_low : (m n : ℕ) → m ≤ n → n < 2 ^ 63 → signed Bits64 m ≤ℤ signed Bits64 n
-signed_le_low m n le low = omega (arith, ints)
-
-signed_le_high : (m n : ℕ) → m ≤ n → 2 ^ 63 ≤ m → signed Bits64 m ≤ℤ signed Bits64 n
-signed_le_high m n le high = grind (arith, ints)
-
 one_sign_le : (range : Interval) (m n : ℕ) → is_one_sign range ≡ true → range.low ≤ m → m ≤ n → n ≤ range.high →
     signed Bits64 m ≤ℤ signed Bits64 n
-one_sign_le range m n h low m_n high =
-    ⊎_elim
-    (λ e. let below = ltb-true range.high (2 ^ 63) e in signed_le_low m n m_n (omega arith))
-    (λ e. let above = leb-true (2 ^ 63) range.low e in signed_le_high m n m_n (omega arith))
-    (or_cases _ _ h)
+one_sign_le range m n h low m_n high = grind (arith, ints)
 
 -- of a part of numbers of one sign, the least displacement is not smaller, and the greatest not greater
 module _ (operation : Operation) (x range : Interval) (sign : is_one_sign range ≡ true) (order : x.low ≤ x.high)
@@ -59,14 +47,11 @@ module _ (operation : Operation) (x range : Interval) (sign : is_one_sign range 
 
 -- the displacement by a number lies between them
 module _ (operation : Operation) (range : Interval) (n : ℕ) (sign : is_one_sign range ≡ true) (has : IsIn n range) where
-  only : IsPartOf (from_to n n) range
-  only = record { low = has.low; high = has.high }
+  displacement_low : least_displacement operation range ≤ℤ displacement operation n
+  displacement_low = least_part operation (from_to n n) range sign (omega arith) (assumption has)
 
-  pub displacement_low : least_displacement operation range ≤ℤ displacement operation n
-  displacement_low = least_part operation (from_to n n) range sign (omega arith) only
-
-  pub displacement_high : displacement operation n ≤ℤ greatest_displacement operation range
-  displacement_high = greatest_part operation (from_to n n) range sign (omega arith) only
+  displacement_high : displacement operation n ≤ℤ greatest_displacement operation range
+  displacement_high = greatest_part operation (from_to n n) range sign (omega arith) (assumption has)
 
 displacements_order : (operation : Operation) (range : Interval) → is_one_sign range ≡ true → range.low ≤ range.high →
     least_displacement operation range ≤ℤ greatest_displacement operation range
@@ -83,19 +68,16 @@ pub record Moved (operation : Operation) (low high : ℤ) (range : Interval) : T
 pub moved_parts : (operation : Operation) (low high : ℤ) (range : Interval) →
     can_move operation low high (Some range) ≡ true → Moved operation low high range
 moved_parts operation low high range h =
-    let p = and_parts _ _ h in
-    let q = and_parts _ _ p.1 in
-    record { sign = p.0; from = le_z-true _ _ q.0; to = le_z-true _ _ q.1 }
+    record { sign = grind arith; from = grind (arith, ints); to = grind (arith, ints) }
 
 moved_in : (input : Input) (operation : Operation) (at : Region) (low high offset : ℤ) (range : Interval) (n : ℕ) →
     can_move operation low high (Some range) ≡ true → low ≤ℤ offset → offset ≤ℤ high → IsIn n range →
     HasKind input (moved_address operation at low high (Some range)) (Address at (offset +ℤ displacement operation n))
 moved_in input operation at low high offset range n can low_le le_high has =
-    let m = moved_parts operation low high range can in (
+    let sign = (moved_parts operation low high range can).sign in (
       refl,
-      add_le _ _ _ _ low_le (displacement_low operation range n m.sign has),
-      add_le _ _ _ _ le_high
-          (displacement_high operation range n m.sign has),
+      add_le _ _ _ _ low_le (displacement_low operation range n sign has),
+      add_le _ _ _ _ le_high (displacement_high operation range n sign has),
     )
 
 pub moved_proper : (operation : Operation) (at : Region) (low high : ℤ) (range : Interval) →
@@ -108,10 +90,9 @@ moved_proper operation at low high range can le order =
 
 pub number_if_moves : (a : Abstract) (operation : Operation) (low high : ℤ) (k : Abs) →
     can_move operation low high (range_of a k) ≡ true → is_number_kind k ≡ true
-number_if_moves a operation low high abs.None h = h
 number_if_moves a operation low high (abs.Num lo hi) h = refl
 number_if_moves a operation low high (abs.Len r) h = refl
-number_if_moves a operation low high (abs.Addr r lo hi) h = h
+number_if_moves a operation low high k h = cc
 
 -- ---- numbers
 
@@ -119,13 +100,10 @@ range_64 : (width : Width) (range : Interval) → IsRangeOf width range → IsRa
 range_64 width range h = record { order = h.order; limited = omega (arith, h.limited, limit_le width) }
 
 changed_le : (change : Change) → 2 ^ changed_bits change ≤ 2 ^ 64
-changed_le (Negate Bits32) = omega arith
-changed_le (Negate Bits64) = omega arith
 changed_le (Order order swapped.Bits16) = omega arith
-changed_le (Order order swapped.Bits32) = omega arith
-changed_le (Order order swapped.Bits64) = omega arith
-changed_le (SignExtend Bits32 part) = omega arith
-changed_le (SignExtend Bits64 part) = omega arith
+changed_le (Order order width) = omega arith
+changed_le (Negate width) = limit_le width
+changed_le (SignExtend width part) = limit_le width
 
 pub changed_64 : (change : Change) (range : Interval) → IsRangeOf Bits64 range →
     IsRangeOf Bits64 (changed_range change range)
@@ -217,8 +195,7 @@ module _ (a : Abstract) (p : is_proper a ≡ true) where
 
   pub move_proper : (k : Abs) → is_proper_kind k ≡ true → is_number_kind k ≡ true →
       is_proper_kind (moved_kind a Bits32 k) ≡ true
-  move_proper k pk number = let n = range_at a k p pk number in
-      rw n.is (numbers_proper _ (cut_64 _ n.proper))
+  move_proper k pk number = let n = range_at a k p pk number in rw n.is (numbers_proper _ (cut_64 _ n.proper))
 
   pub change_proper : (change : Change) (k : Abs) → is_proper_kind k ≡ true → is_number_kind k ≡ true →
       is_proper_kind (changed_kind a change k) ≡ true

@@ -1,8 +1,7 @@
 -- Kinds and ranges of a state that is within another.
 use Rattle.std.proofs.Common.{◌≡◌, ℕ, zero, suc, ◌≤◌, ℤ, ◌+ℤ◌, ◌≤ℤ◌, true, false, List, [], ◌∷◌, length, get_or, set}
 use Rattle.std.proofs.Common.{Some, refl, sym, ap, ◌∙◌, ⊎_elim, arith}
-use Rattle.std.proofs.lemmas.Int.{ints}
-use Rattle.std.proofs.lemmas.Bool.{and_parts, and_from, cases_lt}
+use Rattle.std.proofs.lemmas.{Int.ints, Bool.and_parts, Bool.and_from, Bool.cases_lt}
 use Rattle.machine_spec.specs.{declared.operation.Width.Width, declared.operation.Operation.Operation}
 use Rattle.machine_spec.specs.{declared.operation.Change.Change, declared.instruction.Region.Region}
 use Rattle.machine_spec.specs.{declared.instruction.Source.Source, Values.immediate, Values.moves_address}
@@ -11,18 +10,17 @@ use Rattle.machine_spec.specs.declared.instruction.Region.TheVariants as region
 use Rattle.machine_spec.specs.declared.instruction.Source.TheVariants.{Register, Immediate}
 use Rattle.verifier_spec.specs.declared.{interval.Interval.Interval, state.Abs.Abs, state.Abstract.Abstract}
 use Rattle.verifier_spec.specs.declared.state.Abs.TheVariants as abs
-use Rattle.verifier_spec.specs.{Intervals.IsPartOf, Intervals.IsRangeOf, Intervals.result_range}
-use Rattle.verifier_spec.specs.{Ranges.lengths_from_to, States.is_proper}
+use Rattle.verifier_spec.specs.{Intervals.IsPartOf, Intervals.IsRangeOf, Intervals.result_range, Ranges.lengths_from_to}
+use Rattle.verifier_spec.specs.{States.is_proper, Checks.source_kind, Checks.is_one_sign, Checks.least_displacement}
+use Rattle.verifier_spec.specs.{Checks.greatest_displacement, Checks.can_move, Checks.can_compute_kinds}
 use Rattle.verifier_spec.specs.Kinds.{kind_at, length_range, range_of, is_unknown, is_number_kind, is_address_kind}
 use Rattle.verifier_spec.specs.Kinds.{is_proper_kind, is_kind_within, same_region}
-use Rattle.verifier_spec.specs.Checks.{source_kind, is_one_sign, least_displacement, greatest_displacement, can_move}
-use Rattle.verifier_spec.specs.Checks.{can_compute_kinds}
 use Rattle.verifier_spec.specs.Transfer.{with_kind, numbers, on_ranges, moved_address, moved_kind, computed_kind}
 use Rattle.verifier_spec.specs.Transfer.{changed_kind}
 use Rattle.verifier_spec.proofs.Order.{IsNarrower, IsWithin, region_is}
-use Rattle.verifier_spec.proofs.Proper.{proper_parts, unknown_past, addr_order, proper_range, kind_at_proper, source_proper}
-use Rattle.verifier_spec.proofs.Ranges.{range_part, range_refl, range_trans}
-use Rattle.verifier_spec.proofs.RangesMonotone.{cut_part, result_part, changed_part}
+use Rattle.verifier_spec.proofs.Proper.{proper_parts, unknown_past, addr_order, proper_range, kind_at_proper}
+use Rattle.verifier_spec.proofs.Proper.{source_proper, range_part, range_refl, range_trans}
+use Rattle.verifier_spec.proofs.ComputedRanges.{cut_part, result_part, changed_part}
 use Rattle.verifier_spec.proofs.Sums.{least_part, greatest_part, moved_parts, number_if_moves}
 use Rattle.verifier_spec.proofs.Whole.{le-le_z, le_trans_z, add_le}
 
@@ -69,8 +67,8 @@ pub record AreAddresses (j k : Abs) : Type 0 where
   pub from : low ≤ℤ lo
   pub to : hi ≤ℤ high
 
--- What checks and transfer read of two kinds, of which the first is narrower: where the second is a number, it is a part
--- of that, and where the second is an address, one between its ends.
+-- What checks and transfer read of two kinds, of which the first is narrower: where the second is a number, it is a
+-- part of that, and where the second is an address, one between its ends.
 pub record Narrows (a b : Abstract) (j k : Abs) : Type 0 where
   pub number : is_number_kind k ≡ true → AreRanges a b j k
   pub address : is_address_kind k ≡ true → AreAddresses j k
@@ -83,7 +81,7 @@ module _ (a b : Abstract) (n : IsNarrower a b) (pa : is_proper a ≡ true) (pb :
     outer = outer;
     inner_is = i;
     outer_is = o;
-    inner_range = proper_range a _ _ pa pj i;
+    inner_range = proper_range a j inner pa pj i;
     outer_range = proper_range b k outer pb pk o;
     part = part;
   }
@@ -249,9 +247,9 @@ pairs_set : (P : Abs → Abs → Type 0) (js ks : List Abs) (r q : ℕ) (j k : A
     P (get_or (set js r j) q abs.None) (get_or (set ks r k) q abs.None)
 pairs_set P (x ∷ js) (y ∷ ks) zero zero j k e h p = p
 pairs_set P (x ∷ js) (y ∷ ks) (suc r) (suc q) j k e h p = pairs_set P js ks r q j k (omega arith) h p
-pairs_set P [] (y ∷ ks) r q j k e h p = absurd (omega arith)
-pairs_set P (x ∷ js) [] r q j k e h p = absurd (omega arith)
-pairs_set P js ks r q j k e h p = h
+pairs_set P (x ∷ js) (y ∷ ks) r q j k e h p = h
+pairs_set P [] [] r q j k e h p = h
+pairs_set P js ks r q j k e h p = absurd (omega arith)
 
 -- a register's kind changed on both sides
 module _ (a b : Abstract) (w : IsWithin a b) (pa : is_proper a ≡ true) (pb : is_proper b ≡ true) where

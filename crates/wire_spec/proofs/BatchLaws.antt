@@ -1,18 +1,20 @@
 -- The laws of batches: what is read is spelled so, what is spelled so is read, and no spelling begins
 -- another.
-use Rattle.std.proofs.Common.{◌≡◌, ℕ, zero, suc, ◌+◌, ◌-◌, ◌^◌, ◌<◌, ◌≤◌, Bool, true, false, cond, ltb, eqb, ◌||◌, ◌&&◌}
-use Rattle.std.proofs.Common.{not, List, [], ◌∷◌, ◌++◌, length, get_or, take, drop, Result, Ok, Err, refl, sym, ap}
-use Rattle.std.proofs.Common.{subst, ◌∙◌, append_assoc, drop-cons, arith, ℤ, pos, negsuc, fold, Option, Some, None}
-use Rattle.std.proofs.Common.{FitsSigned, int_lt}
+use Rattle.std.proofs.Common.{◌≡◌, ℕ, zero, suc, ◌+◌, ◌-◌, ◌^◌, ◌<◌, ◌≤◌, true, false, ltb, eqb, ◌||◌, not, List, []}
+use Rattle.std.proofs.Common.{◌∷◌, ◌++◌, length, get_or, take, drop, Result, Ok, Err, refl, sym, ap, ◌∙◌, append_assoc}
+use Rattle.std.proofs.Common.{drop-cons, arith, ℤ, pos, negsuc, fold, Option, Some, None, FitsSigned, int_lt}
 use Rattle.std.specs.Int.{Width, w16, w32, w64, from_be_bytes, to_be_bytes, cast_signed, cast_unsigned, int_max}
-use Rattle.std.specs.{List.AllByRecursion, List.list_all, Ordering.int_eq}
+use Rattle.std.specs.{List.AllByRecursion, List.list_all}
 use Rattle.std.proofs.lemmas.Bool.{cond_both, cases_lt, ltb-false, le-ltb, eqb-true, eq-eqb, ne_eqb, or_parts}
-use Rattle.std.proofs.{lemmas.Bool.Decides.Decides-int_eq, Math.Facts.sfits_to_z, lemmas.Simd.Each1-from_get_or}
+use Rattle.std.proofs.lemmas.Bool.{and_parts, not-false, eqb-false}
+use Rattle.std.proofs.{lemmas.Bool.Decides.Decides-int_eq, Math.Facts.sfits_to_z, Math.Facts.Fits-of_z}
+use Rattle.std.proofs.{lemmas.Simd.Each1-from_get_or}
 use Rattle.std.proofs.lemmas.Int.{ints, to_z_pos, to_z-of_z, of_z-to_z}
 use Rattle.std.proofs.lemmas.List.{append-nil, take-append-drop, drop-drop, length-append, length-take, length-drop}
 use Rattle.std.proofs.lemmas.List.{take_at, get_or-take, get_or-drop}
 use Rattle.std.proofs.lemmas.Nat.{be_bytes_2, be_bytes_4, be_bytes_8, from_be_bytes-to_be_bytes_2}
 use Rattle.std.proofs.lemmas.Nat.{from_be_bytes-to_be_bytes_4, from_be_bytes-to_be_bytes_8}
+use mir.Val.{bits}
 use Rattle.wire_spec.specs.declared.{fault.BatchFault.BatchFault, record.Record.Record, record.Batch.Batch}
 use Rattle.wire_spec.specs.declared.fault.BatchFault.TheVariants as faults
 use Rattle.wire_spec.specs.{Checksum.checksum, RecordSpelling.RecordFits, RecordSpelling.record_spelling}
@@ -22,30 +24,18 @@ use Rattle.wire_spec.specs.BatchSpelling.{checksummed_bytes, batch_spelling, Bat
 use Rattle.wire_spec.specs.declared.limits.TheConstants.{MAX_BATCH, MAX_RECORDS}
 use Rattle.wire_spec.specs.BatchReading.{◌>>=◌, number_at, signed_at, base_offset, leader_epoch, magic, crc, attributes}
 use Rattle.wire_spec.specs.BatchReading.{last_offset_delta, base_timestamp, max_timestamp, producer_id, producer_epoch}
-use Rattle.wire_spec.specs.BatchReading.{base_sequence, record_count, is_miscounted, is_timestamp, is_mistimed}
-use Rattle.wire_spec.specs.BatchReading.{record_or, records_at, count_at, timed_at, whole_at, size_at, batch_at}
-use Rattle.wire_spec.proofs.Varints.{IsBytes, IsBytes-drop, IsBytes-take}
+use Rattle.wire_spec.specs.BatchReading.{base_sequence, record_count, is_miscounted, is_timestamp, record_or}
+use Rattle.wire_spec.specs.BatchReading.{records_at, count_at, timed_at, whole_at, size_at, batch_at}
+use Rattle.wire_spec.proofs.Varints.{IsBytes, IsBytes-drop, IsBytes-take, guard_ok}
 use Rattle.wire_spec.proofs.Checksums.{checksum-lt}
 use Rattle.wire_spec.proofs.RecordLaws.{record_takes, record_again, one_record}
 
 -- ---- Batches by their fields
 
-of_fields : ℤ → ℤ → ℤ → ℤ → ℤ → ℤ → List Record → Batch
-of_fields a b c d e f rs = record {
-  base_offset = a;
-  leader_epoch = b;
-  base_timestamp = c;
-  producer_id = d;
-  producer_epoch = e;
-  base_sequence = f;
-  records = rs;
-}
-
 pub same_batch : (b c : Batch) → b.base_offset ≡ c.base_offset → b.leader_epoch ≡ c.leader_epoch →
     b.base_timestamp ≡ c.base_timestamp → b.producer_id ≡ c.producer_id → b.producer_epoch ≡ c.producer_epoch →
     b.base_sequence ≡ c.base_sequence → b.records ≡ c.records → b ≡ c
-unfolding of_fields
-same_batch b c e1 e2 e3 e4 e5 e6 e7 = grind (arith, of_fields)
+same_batch b c e1 e2 e3 e4 e5 e6 e7 = grind arith
 
 -- ---- Steps that may fail
 
@@ -54,187 +44,89 @@ pub bind_ok : {A B : Type 0} (r : Result A BatchFault) (f : A → Result B Batch
 bind_ok (Ok x) f y e = (x, refl, e)
 bind_ok (Err d) f y e = absurd cc
 
--- a test that let a value pass
-pub guard_ok : {A : Type 0} (b : Bool) (d : BatchFault) (r : Result A BatchFault) (y : A) → cond b (Err d) r ≡ Ok y →
-    (b ≡ false) × (r ≡ Ok y)
-guard_ok true d r y e = absurd cc
-guard_ok false d r y e = (refl, e)
-
 abbrev done : {A : Type 0} → A → Result A BatchFault
 done x = Ok x
 
 pub ok_is : {A : Type 0} (x y : A) → done x ≡ done y → x ≡ y
 ok_is x y e = cc
 
-from_and : (a b : Bool) → (a && b) ≡ true → (a ≡ true) × (b ≡ true)
-from_and true b e = (refl, e)
-from_and false b e = absurd cc
-
-from_not : (b : Bool) → not b ≡ false → b ≡ true
-from_not true e = refl
-from_not false e = absurd cc
-
 -- ---- Numbers
 
-front_2 : (bytes : List ℕ) → from_be_bytes w16 (take 2 bytes) ≡ from_be_bytes w16 bytes
-front_2 bytes = grind (arith, get_or-take)
-
-front_4 : (bytes : List ℕ) → from_be_bytes w32 (take 4 bytes) ≡ from_be_bytes w32 bytes
-front_4 bytes = grind (arith, get_or-take)
-
-front_8 : (bytes : List ℕ) → from_be_bytes w64 (take 8 bytes) ≡ from_be_bytes w64 bytes
-front_8 bytes = grind (arith, get_or-take)
-
-unsigned_16 : (z : ℤ) → FitsSigned w16 z → cast_unsigned w16 z < 2 ^ 16
-unsigned_16 (pos n) h = omega (arith, h.sfits)
-unsigned_16 (negsuc n) h = omega (arith, h.sfits)
-
-unsigned_32 : (z : ℤ) → FitsSigned w32 z → cast_unsigned w32 z < 2 ^ 32
-unsigned_32 (pos n) h = omega (arith, h.sfits)
-unsigned_32 (negsuc n) h = omega (arith, h.sfits)
-
-unsigned_64 : (z : ℤ) → FitsSigned w64 z → cast_unsigned w64 z < 2 ^ 64
-unsigned_64 (pos n) h = omega (arith, h.sfits)
-unsigned_64 (negsuc n) h = omega (arith, h.sfits)
-
 -- a number of this width, as bytes and back
-pub record IsWide (w : Width) (len limit : ℕ) : Type 0 where
+pub record IsWide (w : Width) (len : ℕ) : Type 0 where
   pub front : (bytes : List ℕ) → from_be_bytes w (take len bytes) ≡ from_be_bytes w bytes
   pub back : (bytes : List ℕ) → length bytes ≡ len → IsBytes bytes → to_be_bytes w (from_be_bytes w bytes) ≡ bytes
-  pub again : (n : ℕ) → n < limit → from_be_bytes w (to_be_bytes w n) ≡ n
-  pub below : (bytes : List ℕ) → IsBytes bytes → from_be_bytes w bytes < limit
-  pub cast : (n : ℕ) → n < limit → cast_unsigned w (cast_signed w n) ≡ n
-  pub signed : (n : ℕ) → n < limit → FitsSigned w (cast_signed w n)
-  pub unsigned : (z : ℤ) → FitsSigned w z → cast_unsigned w z < limit
+  pub again : (n : ℕ) → n < 2 ^ bits w → from_be_bytes w (to_be_bytes w n) ≡ n
+  pub below : (bytes : List ℕ) → IsBytes bytes → from_be_bytes w bytes < 2 ^ bits w
 
-wide16 : IsWide w16 2 (2 ^ 16)
-wide16 = grind (arith, front_2, be_bytes_2, from_be_bytes-to_be_bytes_2, of_z-to_z, sfits_to_z, unsigned_16)
+wide16 : IsWide w16 2
+wide16 = grind (arith, get_or-take, be_bytes_2, from_be_bytes-to_be_bytes_2)
 
-wide32 : IsWide w32 4 (2 ^ 32)
-wide32 = grind (arith, front_4, be_bytes_4, from_be_bytes-to_be_bytes_4, of_z-to_z, sfits_to_z, unsigned_32)
+wide32 : IsWide w32 4
+wide32 = grind (arith, get_or-take, be_bytes_4, from_be_bytes-to_be_bytes_4)
 
-wide64 : IsWide w64 8 (2 ^ 64)
-wide64 = grind (arith, front_8, be_bytes_8, from_be_bytes-to_be_bytes_8, of_z-to_z, sfits_to_z, unsigned_64)
+wide64 : IsWide w64 8
+wide64 = grind (arith, get_or-take, be_bytes_8, from_be_bytes-to_be_bytes_8)
 
 -- a field is the bytes at its place, and the next field follows it
-number_field : (w : Width) (len limit : ℕ) → IsWide w len limit → (at next : ℕ) (bytes : List ℕ) → IsBytes bytes →
-    next ≡ at + len → next ≤ length bytes → drop at bytes ≡ to_be_bytes w (number_at w at bytes) ++ drop next bytes
-number_field w len limit wide at next bytes fits e le =
+number_field : (w : Width) (len : ℕ) → IsWide w len → (at : ℕ) (bytes : List ℕ) → IsBytes bytes →
+    at + len ≤ length bytes → drop at bytes ≡ to_be_bytes w (number_at w at bytes) ++ drop (at + len) bytes
+number_field w len wide at bytes fits le =
     let here = drop at bytes in
-    let long : len ≤ length here = omega (arith, length-drop at bytes) in
-    let size : length (take len here) ≡ len = omega (arith, length-take len here) in
-    let back : to_be_bytes w (from_be_bytes w (take len here)) ≡ take len here =
-    wide.back (take len here) size (IsBytes-take len here (IsBytes-drop at bytes fits)) in
-    let front : to_be_bytes w (number_at w at bytes) ≡ take len here = sym (ap (to_be_bytes w) (wide.front here))
-    ∙ back in
-    let rest : drop len here ≡ drop next bytes = drop-drop len at bytes ∙ ap (λ (n : ℕ). drop n bytes) (sym e) in
-    sym (take-append-drop len here) ∙ ap (λ (f : List ℕ). f ++ drop len here) (sym front)
-    ∙ ap (λ (r : List ℕ). to_be_bytes w (number_at w at bytes) ++ r) rest
+    let size : length (take len here) ≡ len = omega (arith, length-take len here, length-drop at bytes) in
+    let back = wide.back (take len here) size (IsBytes-take len here (IsBytes-drop at bytes fits)) in
+    cc (back, wide.front here, take-append-drop len here, drop-drop len at bytes)
 
-signed_field : (w : Width) (len limit : ℕ) → IsWide w len limit → (at next : ℕ) (bytes : List ℕ) → IsBytes bytes →
-    next ≡ at + len → next ≤ length bytes → drop at bytes ≡ signed w (signed_at w at bytes) ++ drop next bytes
-signed_field w len limit wide at next bytes fits e le =
-    let n = number_at w at bytes in
-    let low : n < limit = wide.below (drop at bytes) (IsBytes-drop at bytes fits) in
-    number_field w len limit wide at next bytes fits e le
-    ∙ ap (λ (m : ℕ). to_be_bytes w m ++ drop next bytes) (sym (wide.cast n low))
+signed_field : (w : Width) (len : ℕ) → IsWide w len → (at : ℕ) (bytes : List ℕ) → IsBytes bytes →
+    at + len ≤ length bytes → drop at bytes ≡ signed w (signed_at w at bytes) ++ drop (at + len) bytes
+signed_field w len wide at bytes fits le =
+    let low = wide.below (drop at bytes) (IsBytes-drop at bytes fits) in
+    cc (number_field w len wide at bytes fits le, of_z-to_z w (number_at w at bytes) low)
 
-signed_fits : (w : Width) (len limit : ℕ) → IsWide w len limit → (at : ℕ) (bytes : List ℕ) → IsBytes bytes →
+signed_fits : (w : Width) (len : ℕ) → IsWide w len → (at : ℕ) (bytes : List ℕ) → IsBytes bytes →
     FitsSigned w (signed_at w at bytes)
-signed_fits w len limit wide at bytes fits = grind arith
+signed_fits w len wide at bytes fits =
+    sfits_to_z (record { fits = wide.below (drop at bytes) (IsBytes-drop at bytes fits) })
 
 -- ---- The bytes of a header that was read
 
--- what the checksum covers, by its fields
-covered_fields : (bytes : List ℕ) → IsBytes bytes → 61 ≤ length bytes → drop 21 bytes
-    ≡ to_be_bytes w16 (attributes bytes) ++ (to_be_bytes w32 (last_offset_delta bytes)
-    ++ (signed w64 (base_timestamp bytes) ++ (signed w64 (max_timestamp bytes)
-    ++ (signed w64 (producer_id bytes) ++ (signed w16 (producer_epoch bytes) ++ (signed w32 (base_sequence bytes)
-    ++ (to_be_bytes w32 (record_count bytes) ++ drop 61 bytes)))))))
-covered_fields bytes fits le =
-    number_field w16 2 (2 ^ 16) wide16 21 23 bytes fits refl (omega arith)
-    ∙ ap (λ (r : List ℕ). to_be_bytes w16 (attributes bytes) ++ r)
-    (number_field w32 4 (2 ^ 32) wide32 23 27 bytes fits refl (omega arith)
-    ∙ ap (λ (r : List ℕ). to_be_bytes w32 (last_offset_delta bytes) ++ r)
-    (signed_field w64 8 (2 ^ 64) wide64 27 35 bytes fits refl (omega arith)
-    ∙ ap (λ (r : List ℕ). signed w64 (base_timestamp bytes) ++ r)
-    (signed_field w64 8 (2 ^ 64) wide64 35 43 bytes fits refl (omega arith)
-    ∙ ap (λ (r : List ℕ). signed w64 (max_timestamp bytes) ++ r)
-    (signed_field w64 8 (2 ^ 64) wide64 43 51 bytes fits refl (omega arith)
-    ∙ ap (λ (r : List ℕ). signed w64 (producer_id bytes) ++ r)
-    (signed_field w16 2 (2 ^ 16) wide16 51 53 bytes fits refl (omega arith)
-    ∙ ap (λ (r : List ℕ). signed w16 (producer_epoch bytes) ++ r)
-    (signed_field w32 4 (2 ^ 32) wide32 53 57 bytes fits refl (omega arith)
-    ∙ ap (λ (r : List ℕ). signed w32 (base_sequence bytes) ++ r)
-    (number_field w32 4 (2 ^ 32) wide32 57 61 bytes fits refl (omega arith))))))))
-
--- what is before that, and it
-enclosed_fields : (bytes : List ℕ) → IsBytes bytes → 61 ≤ length bytes →
-    bytes ≡ signed w64 (base_offset bytes)
-    ++ (to_be_bytes w32 (number_at w32 8 bytes)
-    ++ (signed w32 (leader_epoch bytes) ++ (magic bytes ∷ (to_be_bytes w32 (crc bytes) ++ drop 21 bytes))))
-enclosed_fields bytes fits le =
-    signed_field w64 8 (2 ^ 64) wide64 0 8 bytes fits refl (omega arith)
-    ∙ ap (λ (r : List ℕ). signed w64 (base_offset bytes) ++ r)
-    (number_field w32 4 (2 ^ 32) wide32 8 12 bytes fits refl (omega arith)
-    ∙ ap (λ (r : List ℕ). to_be_bytes w32 (number_at w32 8 bytes) ++ r)
-    (signed_field w32 4 (2 ^ 32) wide32 12 16 bytes fits refl (omega arith)
-    ∙ ap (λ (r : List ℕ). signed w32 (leader_epoch bytes) ++ r) (drop-cons bytes 16 0 (omega arith)
-    ∙ ap (λ (r : List ℕ). magic bytes ∷ r) (number_field w32 4 (2 ^ 32) wide32 17 21 bytes fits refl (omega arith)))))
-
 -- ---- Records
 
-abbrev found : Record × List ℕ → Option (Record × List ℕ)
-found x = Some x
-
 is_some : (place : ℕ) (o : Option (Record × List ℕ)) (x : Record × List ℕ) → record_or place o ≡ Ok x → o ≡ Some x
-is_some place (Some y) x e = ap (λ (z : Record × List ℕ). found z) (ok_is y x e)
+is_some place (Some y) x e = cc
 is_some place None x e = absurd cc
 
 records_take : (n place : ℕ) (bytes : List ℕ) (rs : List Record) → IsBytes bytes → records_at n place bytes ≡ Ok rs →
     (bytes ≡ records_spelling place rs) × (length rs ≡ n) × AllByRecursion RecordFits rs
 unfolding records_at
-records_take zero place [] rs fits e =
-    subst (λ (v : List Record). ([] ≡ records_spelling place v) × (length v ≡ 0) × AllByRecursion RecordFits v)
-    (ok_is [] rs e) (refl, refl, tt)
+records_take zero place [] rs fits e = rw (← ok_is [] rs e) (refl, refl, tt)
 records_take zero place (b ∷ bytes) rs fits e = absurd cc
 records_take (suc n) place bytes rs fits e =
-    let a = bind_ok (record_or place (record_at (pos place) bytes))
-    (λ first. records_at n (suc place) first.1 >>= λ others. Ok (first.0 ∷ others)) rs e in
-    let b = bind_ok (records_at n (suc place) a.0.1) (λ others. Ok (a.0.0 ∷ others)) rs a.2 in
+    let a = bind_ok (record_or place (record_at (pos place) bytes)) _ rs e in
+    let b = bind_ok (records_at n (suc place) a.0.1) _ rs a.2 in
     let first = record_takes (pos place) bytes a.0 fits (is_some place (record_at (pos place) bytes) a.0 a.1) in
     let second = records_take n (suc place) a.0.1 b.0 first.0.rest_fits b.1 in
     let whole : bytes ≡ records_spelling place (a.0.0 ∷ b.0) = grind arith in
-    subst (λ (v : List Record). (bytes ≡ records_spelling place v) × (length v ≡ suc n) × AllByRecursion RecordFits v)
-    (ok_is (a.0.0 ∷ b.0) rs b.2) (whole, ap suc second.1, (first.1, second.2))
+    rw (← ok_is _ rs b.2) (whole, ap suc second.1, (first.1, second.2))
 
 pub records_again : (place : ℕ) (rs : List Record) → place + length rs < 2 ^ 31 → AllByRecursion RecordFits rs →
     records_at (length rs) place (records_spelling place rs) ≡ Ok rs
 unfolding records_at
 records_again place [] small fits = refl
-records_again place (r ∷ rs) small fits =
-    let place_fits : FitsSigned w32 (pos place) = record { sfits = omega arith } in
-    rw (
-      record_again (pos place) r (records_spelling (suc place) rs) place_fits fits.0,
-      records_again (suc place) rs
-          (omega arith) fits.1,
-    ) refl
+records_again place (r ∷ rs) small fits = grind (arith, record_again, records_again (suc place) rs)
 
 -- as many records begin both
 records_one : (place : ℕ) (rs ss : List Record) (x y : List ℕ) → place + length rs < 2 ^ 31 → length rs ≡ length ss →
     AllByRecursion RecordFits rs → AllByRecursion RecordFits ss →
     records_spelling place rs ++ x ≡ records_spelling place ss ++ y → (rs ≡ ss) × (x ≡ y)
 records_one place [] [] x y small len fits also e = (refl, e)
-records_one place [] (s ∷ ss) x y small len fits also e = absurd (omega arith)
-records_one place (r ∷ rs) [] x y small len fits also e = absurd (omega arith)
 records_one place (r ∷ rs) (s ∷ ss) x y small len fits also e =
     let place_fits : FitsSigned w32 (pos place) = record { sfits = omega arith } in
-    let row = sym (append_assoc (record_spelling (pos place) r) (records_spelling (suc place) rs) x) ∙ e
-    ∙ append_assoc (record_spelling (pos place) s) (records_spelling (suc place) ss) y in
-    let first = one_record r s (pos place) (pos place) (records_spelling (suc place) rs ++ x)
-    (records_spelling (suc place) ss ++ y) place_fits place_fits fits.0 also.0 row in
+    let row = rw (append_assoc (record_spelling (pos place) r), append_assoc (record_spelling (pos place) s)) at e in
+    let first = one_record r s (pos place) (pos place) _ _ place_fits place_fits fits.0 also.0 row in
     let others = records_one (suc place) rs ss x y (omega arith) (omega arith) fits.1 also.1 first.2 in
     (rw (first.0, others.0) refl, others.1)
+records_one place _ _ x y small len fits also e = absurd (omega arith)
 
 -- ---- Timestamps
 
@@ -242,7 +134,7 @@ pub is_timestamp-from : (t : ℤ) → IsTimestamp t → is_timestamp t ≡ true
 is_timestamp-from t h = grind (arith, ints, h.0, h.1)
 
 pub IsTimestamp-from : (t : ℤ) → is_timestamp t ≡ true → IsTimestamp t
-IsTimestamp-from t h = grind (arith, from_and, ints)
+IsTimestamp-from t h = grind (arith, and_parts, ints)
 
 pub list_all-from : (ts : List ℤ) → AllByRecursion IsTimestamp ts → list_all is_timestamp ts ≡ true
 list_all-from [] h = refl
@@ -251,17 +143,10 @@ list_all-from (t ∷ ts) h = rw (is_timestamp-from t h.0) (list_all-from ts h.1)
 pub AllByRecursion-from : (ts : List ℤ) → list_all is_timestamp ts ≡ true → AllByRecursion IsTimestamp ts
 AllByRecursion-from [] h = tt
 AllByRecursion-from (t ∷ ts) h =
-    let b = from_and (is_timestamp t) (list_all is_timestamp ts) h in
+    let b = and_parts (is_timestamp t) (list_all is_timestamp ts) h in
     (IsTimestamp-from t b.0, AllByRecursion-from ts b.1)
 
 -- ---- The header's tests
-
-not_zero : (n : ℕ) → eqb n 0 ≡ false → 0 < n
-not_zero zero h = absurd cc
-not_zero (suc n) h = omega arith
-
-not_none : (n : ℕ) → 0 < n → eqb n 0 ≡ false
-not_none n h = ne_eqb n 0 (omega arith)
 
 record Counted (bytes : List ℕ) (n : ℕ) : Type 0 where
   pub magic : magic bytes ≡ 2
@@ -278,28 +163,12 @@ count_taken bytes n e =
     let m = guard_ok (not (eqb (magic bytes) 2)) faults.Magic _ n e in
     let c = guard_ok (not (eqb (crc bytes) (checksum (drop 21 bytes)))) faults.Crc _ n m.1 in
     let a = guard_ok (not (eqb (attributes bytes) 0)) faults.Attributes _ n c.1 in
-    let k = guard_ok (is_miscounted bytes) faults.Count (done (record_count bytes)) n a.1 in
-    let none = or_parts (eqb (record_count bytes) 0) (ltb MAX_RECORDS (record_count bytes) || not
-    (eqb (last_offset_delta bytes + 1) (record_count bytes))) k.0 in
-    let many = or_parts (ltb MAX_RECORDS (record_count bytes))
-    (not (eqb (last_offset_delta bytes + 1) (record_count bytes))) none.1 in
-    let same : record_count bytes ≡ n = ok_is (record_count bytes) n k.1 in
-    let least : 0 < record_count bytes = not_zero (record_count bytes) none.0 in
-    let most : record_count bytes ≤ MAX_RECORDS = ltb-false MAX_RECORDS (record_count bytes) many.0 in
-    let last : last_offset_delta bytes + 1 ≡ record_count bytes = grind (arith, eqb-true, from_not) in
-    record {
-      magic = eqb-true (magic bytes) 2 (from_not _ m.0);
-      crc = eqb-true (crc bytes) (checksum (drop 21 bytes)) (from_not _ c.0);
-      attributes = eqb-true (attributes bytes) 0 (from_not _ a.0);
-      some = subst (λ (k : ℕ). 0 < k) same least;
-      few = subst (λ (k : ℕ). k ≤ MAX_RECORDS) same most;
-      last = last ∙ same;
-      count = same;
-    }
+    let k = guard_ok (is_miscounted bytes) faults.Count _ n a.1 in
+    grind (arith, or_parts, not-false, eqb-true, eqb-false, ltb-false, ok_is)
 
 counted_ok : (n last : ℕ) → 0 < n → n ≤ MAX_RECORDS → last + 1 ≡ n →
     (eqb n 0 || (ltb MAX_RECORDS n || not (eqb (last + 1) n))) ≡ false
-counted_ok n last some few e = rw (not_none n some, le-ltb MAX_RECORDS n few, eq-eqb (last + 1) n e) refl
+counted_ok n last some few e = grind (arith, ne_eqb, le-ltb, eq-eqb)
 
 count_again : (bytes : List ℕ) (n : ℕ) → Counted bytes n → count_at bytes ≡ Ok n
 unfolding count_at
@@ -349,13 +218,30 @@ covered_bytes : (bytes : List ℕ) → IsBytes bytes → 61 ≤ length bytes →
     drop 21 bytes ≡ shape (attributes bytes) (last_offset_delta bytes) (base_timestamp bytes) (max_timestamp bytes)
     (producer_id bytes) (producer_epoch bytes) (base_sequence bytes) (record_count bytes) (drop 61 bytes)
 unfolding shape
-covered_bytes bytes fits le = covered_fields bytes fits le
+covered_bytes bytes fits le =
+    cc (
+      number_field w16 2 wide16 21 bytes fits (omega arith),
+      number_field w32 4 wide32 23 bytes fits (omega arith),
+      signed_field w64 8 wide64 27 bytes fits (omega arith),
+      signed_field w64 8 wide64 35 bytes fits (omega arith),
+      signed_field w64 8 wide64 43 bytes fits (omega arith),
+      signed_field w16 2 wide16 51 bytes fits (omega arith),
+      signed_field w32 4 wide32 53 bytes fits (omega arith),
+      number_field w32 4 wide32 57 bytes fits (omega arith),
+    )
 
 enclosed_bytes : (bytes : List ℕ) → IsBytes bytes → 61 ≤ length bytes →
     bytes ≡ outline (base_offset bytes) (number_at w32 8 bytes) (leader_epoch bytes) (magic bytes) (crc bytes)
     (drop 21 bytes)
 unfolding outline
-enclosed_bytes bytes fits le = enclosed_fields bytes fits le
+enclosed_bytes bytes fits le =
+    cc (
+      signed_field w64 8 wide64 0 bytes fits (omega arith),
+      number_field w32 4 wide32 8 bytes fits (omega arith),
+      signed_field w32 4 wide32 12 bytes fits (omega arith),
+      drop-cons bytes 16 0 (omega arith),
+      number_field w32 4 wide32 17 bytes fits (omega arith),
+    )
 
 covered_shape : (b : Batch) → checksummed_bytes b
     ≡ shape 0 (length b.records - 1) b.base_timestamp (greatest (timestamps b.base_timestamp b.records)) b.producer_id
@@ -368,15 +254,6 @@ spelled_outline : (b : Batch) → batch_spelling b
     (checksummed_bytes b)
 unfolding outline batch_spelling
 spelled_outline b = refl
-
-same_shape : (a l n : ℕ) (base top id epoch first : ℤ) (rest : List ℕ) (a' l' n' : ℕ) (top' : ℤ) (rest' : List ℕ) →
-    a ≡ a' → l ≡ l' → top ≡ top' → n ≡ n' → rest ≡ rest' →
-    shape a l base top id epoch first n rest ≡ shape a' l' base top' id epoch first n' rest'
-same_shape a l n base top id epoch first rest a' l' n' top' rest' e1 e2 e3 e4 e5 = cc
-
-same_outline : (offset epoch : ℤ) (len m c : ℕ) (rest : List ℕ) (len' m' c' : ℕ) (rest' : List ℕ) → len ≡ len' →
-    m ≡ m' → c ≡ c' → rest ≡ rest' → outline offset len epoch m c rest ≡ outline offset len' epoch m' c' rest'
-same_outline offset epoch len m c rest len' m' c' rest' e1 e2 e3 e4 = cc
 
 -- the batch of the header of these bytes and these records
 made_of : List ℕ → List Record → Batch
@@ -396,23 +273,11 @@ made_spelled : (bytes : List ℕ) (rs : List Record) → IsBytes bytes → 61 �
 unfolding made_of
 made_spelled bytes rs fits long counted size records top =
     let b = made_of bytes rs in
-    let n = length rs in
-    let last : last_offset_delta bytes ≡ n - 1 = omega (arith, counted.last) in
-    let inner : drop 21 bytes ≡ checksummed_bytes b =
-    covered_bytes bytes fits long
-    ∙ same_shape (attributes bytes) (last_offset_delta bytes) (record_count bytes) (base_timestamp bytes)
-    (max_timestamp bytes) (producer_id bytes) (producer_epoch bytes) (base_sequence bytes) (drop 61 bytes) 0
-    (n - 1) n (greatest (timestamps (base_timestamp bytes) rs)) (records_spelling 0 rs) counted.attributes last
-    top counted.count records
-    ∙ sym (covered_shape b) in
+    let last : last_offset_delta bytes ≡ length rs - 1 = omega (arith, counted.last) in
+    let inner : drop 21 bytes ≡ checksummed_bytes b = cc (covered_bytes bytes fits long, covered_shape b) in
     let len : number_at w32 8 bytes ≡ 9 + length (checksummed_bytes b) =
     omega (arith, size, long, length-drop 21 bytes, ap length inner) in
-    let crc_is : crc bytes ≡ checksum (checksummed_bytes b) = counted.crc ∙ ap checksum inner in
-    enclosed_bytes bytes fits long
-    ∙ same_outline (base_offset bytes) (leader_epoch bytes) (number_at w32 8 bytes) (magic bytes) (crc bytes)
-    (drop 21 bytes) (9 + length (checksummed_bytes b)) 2 (checksum (checksummed_bytes b)) (checksummed_bytes b)
-    len counted.magic crc_is inner
-    ∙ sym (spelled_outline b)
+    cc (enclosed_bytes bytes fits long, spelled_outline b)
 
 record Timed (bytes : List ℕ) (rs : List Record) : Type 0 where
   pub base : is_timestamp (base_timestamp bytes) ≡ true
@@ -422,78 +287,59 @@ record Timed (bytes : List ℕ) (rs : List Record) : Type 0 where
 timed_taken : (bytes : List ℕ) (rs : List Record) (b : Batch) → timed_at bytes rs ≡ Ok b →
     Timed bytes rs × (made_of bytes rs ≡ b)
 unfolding timed_at made_of
-timed_taken bytes rs b e =
-    let ts = timestamps (base_timestamp bytes) rs in
-    let t = guard_ok (is_mistimed bytes rs) faults.Timestamp (done (made_of bytes rs)) b e in
-    let base = or_parts (not (is_timestamp (base_timestamp bytes)))
-    (not (list_all is_timestamp ts) || not (int_eq (max_timestamp bytes) (greatest ts))) t.0 in
-    let each = or_parts (not (list_all is_timestamp ts)) (not (int_eq (max_timestamp bytes) (greatest ts))) base.1 in
-    let top : int_eq (max_timestamp bytes) (greatest ts) ≡ true =
-    from_not (int_eq (max_timestamp bytes) (greatest ts)) each.1 in (
-      record {
-        base = from_not (is_timestamp (base_timestamp bytes)) base.0;
-        each = from_not (list_all is_timestamp ts) each.0;
-        top = (Decides-int_eq (max_timestamp bytes) (greatest ts)).0 top;
-      },
-      ok_is (made_of bytes rs) b t.1,
-    )
+timed_taken bytes rs b e = grind (arith, guard_ok, or_parts, not-false, Decides-int_eq, ok_is)
 
 made_fits : (bytes : List ℕ) (rs : List Record) → IsBytes bytes → length bytes ≤ MAX_BATCH → Counted bytes (length rs) →
     Timed bytes rs → AllByRecursion RecordFits rs → bytes ≡ batch_spelling (made_of bytes rs) →
     BatchFits (made_of bytes rs)
 unfolding made_of
 made_fits bytes rs fits small counted timed records spelled = record {
-  base_offset = signed_fits w64 8 (2 ^ 64) wide64 0 bytes fits;
-  leader_epoch = signed_fits w32 4 (2 ^ 32) wide32 12 bytes fits;
-  producer_id = signed_fits w64 8 (2 ^ 64) wide64 43 bytes fits;
-  producer_epoch = signed_fits w16 2 (2 ^ 16) wide16 51 bytes fits;
-  base_sequence = signed_fits w32 4 (2 ^ 32) wide32 53 bytes fits;
+  base_offset = signed_fits w64 8 wide64 0 bytes fits;
+  leader_epoch = signed_fits w32 4 wide32 12 bytes fits;
+  producer_id = signed_fits w64 8 wide64 43 bytes fits;
+  producer_epoch = signed_fits w16 2 wide16 51 bytes fits;
+  base_sequence = signed_fits w32 4 wide32 53 bytes fits;
   some_records = counted.some;
   few_records = counted.few;
   records = records;
   base_timestamp = IsTimestamp-from (base_timestamp bytes) timed.base;
   each_timestamp = AllByRecursion-from (timestamps (base_timestamp bytes) rs) timed.each;
-  few_bytes = subst (λ (s : List ℕ). length s ≤ MAX_BATCH) spelled small;
+  few_bytes = rw (← spelled) small;
 }
 
 pub whole_takes : (bytes : List ℕ) (b : Batch) → IsBytes bytes → 61 ≤ length bytes → length bytes ≤ MAX_BATCH →
     number_at w32 8 bytes + 12 ≡ length bytes → whole_at bytes ≡ Ok b → BatchFits b × (bytes ≡ batch_spelling b)
 unfolding whole_at
 whole_takes bytes b fits long small size e =
-    let c = bind_ok (count_at bytes) (λ count. records_at count 0 (drop 61 bytes) >>= λ rs. timed_at bytes rs) b e in
-    let r = bind_ok (records_at c.0 0 (drop 61 bytes)) (λ rs. timed_at bytes rs) b c.2 in
+    let c = bind_ok (count_at bytes) _ b e in
+    let r = bind_ok (records_at c.0 0 (drop 61 bytes)) _ b c.2 in
     let recs = records_take c.0 0 (drop 61 bytes) r.0 (IsBytes-drop 61 bytes fits) r.1 in
-    let counted : Counted bytes (length r.0) =
-    subst (λ (n : ℕ). Counted bytes n) (sym recs.1) (count_taken bytes c.0 c.1) in
+    let counted : Counted bytes (length r.0) = rw recs.1 (count_taken bytes c.0 c.1) in
     let timed = timed_taken bytes r.0 b r.2 in
     let spelled = made_spelled bytes r.0 fits long counted size recs.0 timed.0.top in
-    let made = made_fits bytes r.0 fits small counted timed.0 recs.2 spelled in
-    subst (λ (v : Batch). BatchFits v × (bytes ≡ batch_spelling v)) timed.1 (made, spelled)
-
-same_4 : (xs ys : List ℕ) → ((i : ℕ) → i < 4 → get_or xs i 0 ≡ get_or ys i 0) →
-    from_be_bytes w32 xs ≡ from_be_bytes w32 ys
-same_4 xs ys h = omega (arith, h 0 (omega arith), h 1 (omega arith), h 2 (omega arith), h 3 (omega arith))
+    rw (← timed.1) (made_fits bytes r.0 fits small counted timed.0 recs.2 spelled, spelled)
 
 -- batchLength is the same where the batch is alone
 pub length_alone : (n : ℕ) (bytes : List ℕ) → 12 ≤ n → number_at w32 8 (take n bytes) ≡ number_at w32 8 bytes
 length_alone n bytes le =
-    same_4 (drop 8 (take n bytes)) (drop 8 bytes) (λ i lt. get_or-drop 8 (take n bytes) i 0
-    ∙ get_or-take n bytes (8 + i) 0 (omega arith) ∙ sym (get_or-drop 8 bytes i 0))
+    let same : (i : ℕ) → i < 4 → get_or (drop 8 (take n bytes)) i 0 ≡ get_or (drop 8 bytes) i 0 =
+    λ i lt. get_or-drop 8 (take n bytes) i 0 ∙ get_or-take n bytes (8 + i) 0 (omega arith)
+    ∙ sym (get_or-drop 8 bytes i 0) in
+    omega (arith, same 0 (omega arith), same 1 (omega arith), same 2 (omega arith), same 3 (omega arith))
 
 pub batch_takes : (bytes : List ℕ) (x : Batch × ℕ) → IsBytes bytes → batch_at bytes ≡ Ok x →
     BatchFits x.0 × (x.1 ≤ length bytes) × (take x.1 bytes ≡ batch_spelling x.0)
 unfolding batch_at
 batch_takes bytes x fits e =
-    let a = bind_ok (size_at bytes) (λ size. whole_at (take size bytes) >>= λ b. Ok (b, size)) x e in
-    let w = bind_ok (whole_at (take a.0 bytes)) (λ b. Ok (b, a.0)) x a.2 in
+    let a = bind_ok (size_at bytes) _ x e in
+    let w = bind_ok (whole_at (take a.0 bytes)) _ x a.2 in
     let sized = size_taken bytes a.0 a.1 in
     let alone = take a.0 bytes in
     let len : length alone ≡ a.0 = omega (arith, length-take a.0 bytes, sized.there) in
     let size : number_at w32 8 alone + 12 ≡ length alone = grind (arith, length_alone) in
     let whole = whole_takes alone w.0 (IsBytes-take a.0 bytes fits) (omega (arith, sized.least))
     (omega (arith, sized.most)) size w.1 in
-    subst (λ (y : Batch × ℕ). BatchFits y.0 × (y.1 ≤ length bytes) × (take y.1 bytes ≡ batch_spelling y.0))
-    (ok_is (w.0, a.0) x w.2) (whole.0, sized.there, whole.1)
+    rw (← ok_is _ x w.2) (whole.0, sized.there, whole.1)
 
 -- ---- What is spelled so is read
 
@@ -512,19 +358,18 @@ record HasFields (b : Batch) (bytes : List ℕ) : Type 0 where
   pub base_sequence : base_sequence bytes ≡ b.base_sequence
   pub count : record_count bytes ≡ length b.records
 
-read_signed : (w : Width) (len limit : ℕ) → IsWide w len limit → (z : ℤ) → cast_signed w (cast_unsigned w z) ≡ z →
-    FitsSigned w z → cast_signed w (from_be_bytes w (signed w z)) ≡ z
-read_signed w len limit wide z back fits = ap (cast_signed w) (wide.again (cast_unsigned w z) (wide.unsigned z fits))
-    ∙ back
+read_signed : (w : Width) (len : ℕ) → IsWide w len → (z : ℤ) → FitsSigned w z →
+    cast_signed w (from_be_bytes w (signed w z)) ≡ z
+read_signed w len wide z fits = rw (wide.again (cast_unsigned w z) (Fits-of_z fits).fits) (to_z-of_z w z fits)
 
 back_16 : (z : ℤ) → FitsSigned w16 z → cast_signed w16 (from_be_bytes w16 (signed w16 z)) ≡ z
-back_16 z fits = read_signed w16 2 (2 ^ 16) wide16 z (to_z-of_z w16 z fits) fits
+back_16 = read_signed w16 2 wide16
 
 back_32 : (z : ℤ) → FitsSigned w32 z → cast_signed w32 (from_be_bytes w32 (signed w32 z)) ≡ z
-back_32 z fits = read_signed w32 4 (2 ^ 32) wide32 z (to_z-of_z w32 z fits) fits
+back_32 = read_signed w32 4 wide32
 
 back_64 : (z : ℤ) → FitsSigned w64 z → cast_signed w64 (from_be_bytes w64 (signed w64 z)) ≡ z
-back_64 z fits = read_signed w64 8 (2 ^ 64) wide64 z (to_z-of_z w64 z fits) fits
+back_64 = read_signed w64 8 wide64
 
 -- timestamps fit 64 bits
 pub timestamp_fits : (t : ℤ) → IsTimestamp t → FitsSigned w64 t
@@ -574,44 +419,27 @@ records_there : (b : Batch) (rest : List ℕ) → drop 61 (batch_spelling b ++ r
 unfolding batch_spelling
 records_there b rest = refl
 
-alone_is : (b : Batch) (P : List ℕ → Type 0) → P (batch_spelling b ++ []) → P (batch_spelling b)
-alone_is b P h = subst P (append-nil (batch_spelling b)) h
-
-whole_by : (bytes : List ℕ) (n : ℕ) (rs : List Record) (b : Batch) → count_at bytes ≡ Ok n →
-    records_at n 0 (drop 61 bytes) ≡ Ok rs → timed_at bytes rs ≡ Ok b → whole_at bytes ≡ Ok b
-unfolding whole_at
-whole_by bytes n rs b e1 e2 e3 = rw (e1, e2, e3) refl
-
 timed_again : (b : Batch) (bytes : List ℕ) → BatchFits b → HasFields b bytes → timed_at bytes b.records ≡ Ok b
 unfolding timed_at
 timed_again b bytes fits s = grind (arith, is_timestamp-from, list_all-from, same_batch)
 
 whole_again : (b : Batch) → BatchFits b → IsBytes (batch_spelling b) → whole_at (batch_spelling b) ≡ Ok b
+unfolding whole_at
 whole_again b fits bytes =
     let text = batch_spelling b in
-    let s : HasFields b text = alone_is b (HasFields b) (has_fields b [] fits) in
-    let inner : drop 21 text ≡ checksummed_bytes b =
-    alone_is b (λ (t : List ℕ). drop 21 t ≡ checksummed_bytes b)
-    (covered_there b [] ∙ append-nil (checksummed_bytes b)) in
-    let inner_bytes : IsBytes (checksummed_bytes b) = subst IsBytes inner (IsBytes-drop 21 text bytes) in
-    let sum : crc text ≡ checksum (drop 21 text) =
-    alone_is b (λ (t : List ℕ). crc t ≡ checksum (checksummed_bytes b)) (crc_there b [] inner_bytes)
-    ∙ ap checksum (sym inner) in
-    let behind : drop 61 text ≡ records_spelling 0 b.records = grind (arith, alone_is, records_there, append-nil) in
+    let s = rw append-nil at (has_fields b [] fits) in
+    let inner = simp append-nil at (covered_there b []) in
+    let behind = simp append-nil at (records_there b []) in
+    let sum = rw append-nil at (crc_there b [] (rw inner at (IsBytes-drop 21 text bytes))) in
     let last : last_offset_delta text + 1 ≡ length b.records = omega (arith, s.last, fits.some_records) in
     let counted : Counted text (length b.records) = grind arith in
     let small : 0 + length b.records < 2 ^ 31 = omega (arith, fits.few_records) in
-    whole_by text (length b.records) b.records b (count_again text (length b.records) counted)
-    (ap (records_at (length b.records) 0) behind ∙ records_again 0 b.records small fits.records)
+    rw (count_again text (length b.records) counted, behind, records_again 0 b.records small fits.records)
     (timed_again b text fits s)
-
-batch_by : (bytes : List ℕ) (n : ℕ) (b : Batch) → size_at bytes ≡ Ok n → whole_at (take n bytes) ≡ Ok b →
-    batch_at bytes ≡ Ok (b, n)
-unfolding batch_at
-batch_by bytes n b e1 e2 = rw (e1, e2) refl
 
 pub batch_again : (b : Batch) (rest : List ℕ) → BatchFits b → IsBytes (batch_spelling b ++ rest) →
     batch_at (batch_spelling b ++ rest) ≡ Ok (b, length (batch_spelling b))
+unfolding batch_at
 batch_again b rest fits bytes =
     let text = batch_spelling b in
     let n = length text in
@@ -620,24 +448,17 @@ batch_again b rest fits bytes =
     let whole = length-covered b in
     let inner = records_length b in
     let alone : take n all ≡ text = take_at text rest n refl in
-    let text_bytes : IsBytes text = subst IsBytes alone (IsBytes-take n all bytes) in
+    let text_bytes = rw alone at (IsBytes-take n all bytes) in
     let sized : Sized all n = grind (arith, length-append) in
-    batch_by all n b (size_again all n sized) (ap whole_at alone ∙ whole_again b fits text_bytes)
+    rw (size_again all n sized, alone, whole_again b fits text_bytes)
 
 -- no spelling of a batch begins another
 pub one_batch : (b c : Batch) (x y : List ℕ) → BatchFits b → BatchFits c →
     batch_spelling b ++ x ≡ batch_spelling c ++ y → (b ≡ c) × (x ≡ y)
 one_batch b c x y fits also e =
-    let all = batch_spelling b ++ x in
     let s = has_fields b x fits in
-    let t : HasFields c all = subst (HasFields c) (sym e) (has_fields c y also) in
-    let count : length b.records ≡ length c.records = sym s.count ∙ t.count in
-    let row : records_spelling 0 b.records ++ x ≡ records_spelling 0 c.records ++ y = sym (records_there b x)
-    ∙ ap (drop 61) e ∙ records_there c y in
-    let both = records_one 0 b.records c.records x y (omega (arith, fits.few_records)) count fits.records also.records
-    row in (
-      same_batch b c (sym s.base_offset ∙ t.base_offset) (sym s.leader_epoch ∙ t.leader_epoch)
-          (sym s.base_timestamp ∙ t.base_timestamp) (sym s.producer_id ∙ t.producer_id)
-          (sym s.producer_epoch ∙ t.producer_epoch) (sym s.base_sequence ∙ t.base_sequence) both.0,
-      both.1,
-    )
+    let t = rw (← e) at (has_fields c y also) in
+    let row = sym (records_there b x) ∙ ap (drop 61) e ∙ records_there c y in
+    let both = records_one 0 b.records c.records x y (omega (arith, fits.few_records)) (sym s.count ∙ t.count)
+    fits.records also.records row in
+    (grind (arith, same_batch), both.1)

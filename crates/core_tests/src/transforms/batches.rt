@@ -1,7 +1,6 @@
 use crate::interrupted::Interrupted;
-use crate::transforms::making::{has, is_pushed, stream_of};
+use crate::transforms::making::{first_wrong, has, is_pushed, stream_of};
 use crate::verdicts::all_hold;
-use broker_fixtures::program_of;
 use fixtures::FORWARD;
 use log_item::Program;
 use std::alloc::Global;
@@ -82,22 +81,11 @@ fn fills(alloc: Global, program: &Program, filling: &Filling<'_>) -> bool {
     }
 }
 
-/// The number of the first row of which the program of an image gives others; 0 where there is no program.
-fn first_other_filling(alloc: Global, image: &[u8], rows: &[Filling<'_>]) -> Option<usize> {
-    let Some(program) = program_of(alloc, image) else {
-        return Some(0);
-    };
-    for (k, row) in rows.iter().enumerate() {
-        if !fills(alloc, &program, row) {
-            return Some(k);
-        }
-    }
-    None
-}
-
 #[test]
 fn batches_fill_up_to_their_limits(rt: HostRuntime) {
-    all_hold(&rt, first_other_filling(rt.alloc(), &SECOND, &FILLINGS));
+    let alloc = rt.alloc();
+    let is_right = |program: &Program, row: &Filling<'_>| fills(alloc, program, row);
+    all_hold(&rt, first_wrong(alloc, &SECOND, &FILLINGS, is_right));
 }
 
 /// Whether a batch of two records is taken, and the offset after it.
@@ -122,20 +110,9 @@ static LAST: [Taken; 2] = [
     (TIMESTAMP_END - 9_999, (false, TIMESTAMP_END - 9_999)),
 ];
 
-/// The number of the first row that is not as it says; 0 where there is no program of the image.
-fn first_other_offset(alloc: Global, image: &[u8], rows: &[Taken]) -> Option<usize> {
-    let Some(program) = program_of(alloc, image) else {
-        return Some(0);
-    };
-    for (k, row) in rows.iter().enumerate() {
-        if taken_at(alloc, &program, row.0) != Some(row.1) {
-            return Some(k);
-        }
-    }
-    None
-}
-
 #[test]
 fn offsets_end_below_two_to_the_62(rt: HostRuntime) {
-    all_hold(&rt, first_other_offset(rt.alloc(), &FORWARD, &LAST));
+    let alloc = rt.alloc();
+    let is_right = |program: &Program, row: &Taken| taken_at(alloc, program, row.0) == Some(row.1);
+    all_hold(&rt, first_wrong(alloc, &FORWARD, &LAST, is_right));
 }

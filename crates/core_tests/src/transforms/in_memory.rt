@@ -1,12 +1,12 @@
-use crate::transforms::making::{Given, TWO, bytes_of, damaged};
+use crate::transforms::making::{Given, TWO, bytes_of, damaged, first_wrong};
 use crate::verdicts::all_hold;
-use batch_transform::{BatchPlace, OutputBatches, Stop, Transformed, transform_batches};
 use broker_fixtures::program_of;
 use fixtures::FORWARD;
 use item_rows::Origin;
 use log_item::Program;
 use std::alloc::Global;
 use std::test::*;
+use transform::{BatchPlace, OutputBatches, Stop, Transformed, transform_batches};
 use wire_spec::{BatchFault, TIMESTAMP_END};
 
 /// ldxb r0, [r1] after a test for one byte of the value; exit: the first byte is the reject code.
@@ -18,12 +18,13 @@ static REJECT: [u8; 40] = [
     0x95, 0, 0, 0, 0, 0, 0, 0, // exit
 ];
 
-/// What a program makes of batches for two outputs.
+/// What a program makes of batches for two outputs, in at most so many bytes.
 fn made(
     alloc: Global,
     program: &Program,
     offset: u64,
     bytes: &[u8],
+    limit: u64,
     place: &mut BatchPlace,
 ) -> Result<Transformed, Stop> {
     if offset > TIMESTAMP_END {
@@ -34,7 +35,7 @@ fn made(
         offset,
         outputs: 2,
     };
-    transform_batches(alloc, program, &origin, bytes, place)
+    transform_batches(alloc, program, &origin, bytes, limit, place)
 }
 
 /// Damage: how many bytes of two batches are left, and which is changed; the first offset; why the transform
@@ -58,7 +59,7 @@ fn is_end(alloc: Global, program: &Program, bytes: &[u8], damage: &Damage) -> bo
         batch: 99,
         byte: 99,
     };
-    match made(alloc, program, offset, bytes, &mut place) {
+    match made(alloc, program, offset, bytes, u64::MAX, &mut place) {
         Err(why) => Some(why) == stop && place == BatchPlace { batch, byte },
         Ok(found) => stop.is_none() && found.batches == batch && bytes.len() == byte,
     }
@@ -71,22 +72,11 @@ fn ends_so(alloc: Global, program: &Program, damage: &Damage) -> bool {
     }
 }
 
-/// The number of the first row of which that is not so; 0 where there is no program of the image.
-fn first_other_end(alloc: Global, image: &[u8], rows: &[Damage]) -> Option<usize> {
-    let Some(program) = program_of(alloc, image) else {
-        return Some(0);
-    };
-    for (k, row) in rows.iter().enumerate() {
-        if !ends_so(alloc, &program, row) {
-            return Some(k);
-        }
-    }
-    None
-}
-
 #[test]
 fn stops_at_the_first_fault(rt: HostRuntime) {
-    all_hold(&rt, first_other_end(rt.alloc(), &FORWARD, &DAMAGES));
+    let alloc = rt.alloc();
+    let is_right = |program: &Program, row: &Damage| ends_so(alloc, program, row);
+    all_hold(&rt, first_wrong(alloc, &FORWARD, &DAMAGES, is_right));
 }
 
 static ENDINGS: [Damage; 2] = [
@@ -96,7 +86,9 @@ static ENDINGS: [Damage; 2] = [
 
 #[test]
 fn stops_where_offsets_end(rt: HostRuntime) {
-    all_hold(&rt, first_other_end(rt.alloc(), &FORWARD, &ENDINGS));
+    let alloc = rt.alloc();
+    let is_right = |program: &Program, row: &Damage| ends_so(alloc, program, row);
+    all_hold(&rt, first_wrong(alloc, &FORWARD, &ENDINGS, is_right));
 }
 
 /// Of an output the number of rows, of batches and of bytes.
@@ -129,7 +121,7 @@ fn is_made(found: &Transformed, want: &Made<'_>) -> bool {
 /// Whether a program makes this of bytes.
 fn makes(alloc: Global, program: &Program, bytes: &[u8], want: &Made<'_>) -> bool {
     let mut place = BatchPlace { batch: 0, byte: 0 };
-    match made(alloc, program, 0, bytes, &mut place) {
+    match made(alloc, program, 0, bytes, u64::MAX, &mut place) {
         Ok(found) => is_made(&found, want),
         Err(_) => false,
     }
@@ -170,4 +162,40 @@ static VALUES_MADE: Made<'static> = (&[(0, 0, 0), (0, 0, 0)], (6, 1), &[(3, 3), 
 #[test]
 fn counts_rejects_by_rising_code(rt: HostRuntime) {
     assert!(rt; are_made(rt.alloc(), &REJECT, &VALUES, &VALUES_MADE));
+}
+
+/// A limit, and how many batches and bytes are read where it is passed; none where it isn't.
+type Limit = (u64, Option<(usize, usize)>);
+
+static THREE: [Given; 3] = [(10_000, None), (1, None), (1, None)];
+
+/// The rows are a batch of 81,805 bytes, which is full with the second batch that is given, and one of 75, which is
+/// written at the end.
+static LIMITS: [Limit; 6] = [
+    (0, Some((2, 81_873))),
+    (81_804, Some((2, 81_873))),
+    (81_805, Some((3, 81_941))),
+    (81_879, Some((3, 81_941))),
+    (81_880, None),
+    (u64::MAX, None),
+];
+
+/// Whether a transform of these bytes is within the limit, or ends where it should.
+fn is_limited(alloc: Global, program: &Program, bytes: &[u8], limit: &Limit) -> bool {
+    let (most, passed) = *limit;
+    let mut place = BatchPlace { batch: 0, byte: 0 };
+    match made(alloc, program, 0, bytes, most, &mut place) {
+        Ok(_) => passed.is_none(),
+        Err(why) => why == Stop::Limit && passed == Some((place.batch, place.byte)),
+    }
+}
+
+#[test]
+fn rows_take_no_more_bytes_than_the_limit(rt: HostRuntime) {
+    let alloc = rt.alloc();
+    let is_right = |program: &Program, row: &Limit| match bytes_of(alloc, &THREE) {
+        Some(bytes) => is_limited(alloc, program, &bytes, row),
+        None => false,
+    };
+    all_hold(&rt, first_wrong(alloc, &FORWARD, &LIMITS, is_right));
 }

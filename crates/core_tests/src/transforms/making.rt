@@ -1,7 +1,12 @@
 //! Streams and batches of the tests, and what is seen of an output.
 
+ghost use Rattle.std.specs.Prelude.{IfSome};
+ghost use Rattle.log_spec.specs.Logs.{FitsLog};
+
 use crate::interrupted::Interrupted;
-use batch::{Feed, encode};
+use batch::{Feed, PackedBatch, decode_packed, encode};
+use broker_fixtures::program_of;
+use bytes::Bytes;
 use fixtures::{batch_of, batch_of_value, batch_with};
 use log_item::Program;
 use std::alloc::{AllocError, Global};
@@ -18,6 +23,26 @@ fn outlets_of(alloc: Global, outputs: usize) -> Result<Vec<Outlet<Interrupted>>,
         outlets.push(Outlet::new(alloc, writer))?;
     }
     Ok(outlets)
+}
+
+/// The number of the first row that is not right by the program of an image; 0 where there is no program.
+pub(crate) fn first_wrong<T, F: Fn(&Program, &T) -> bool>(
+    alloc: Global,
+    image: &[u8],
+    rows: &[T],
+    is_right: F,
+) -> Option<usize>
+    requires { F.IsAlwaysCallable is_right }
+{
+    let Some(program) = program_of(alloc, image) else {
+        return Some(0);
+    };
+    for (k, row) in rows.iter().enumerate() {
+        if !is_right(&program, row) {
+            return Some(k);
+        }
+    }
+    None
 }
 
 /// A stream from an offset of an input partition into so many output partitions. None where there is no
@@ -37,7 +62,26 @@ pub(crate) fn stream_of(
     Some(Transform::new(alloc, input, offset, outlets))
 }
 
-/// Whether a batch with this count of records and bytes of a value is taken.
+/// The bytes of a batch. None where it has no spelling or memory ran out.
+fn spelled(alloc: Global, batch: &Batch) -> Option<Vec<u8>> {
+    if !batch::fits(batch) {
+        return None;
+    }
+    encode(alloc, batch).ok()
+}
+
+/// A batch with this count of records and bytes of a value, as it is read of its bytes. None where it has
+/// no spelling or memory ran out.
+#[tactic(auto, using(log_spec::proofs::FittingBatches::fits_log))]
+fn packed_with(alloc: Global, count: usize, bytes: usize) -> Option<PackedBatch>
+    ensures { IfSome result FitsLog }
+{
+    let written = spelled(alloc, &batch_with(alloc, count, bytes)?)?;
+    let (batch, _) = decode_packed(alloc, Bytes::from_vec(written).ok()?).ok()?;
+    Some(batch)
+}
+
+/// Whether such a batch is taken.
 pub(crate) fn is_pushed(
     alloc: Global,
     program: &Program,
@@ -45,7 +89,7 @@ pub(crate) fn is_pushed(
     count: usize,
     bytes: usize,
 ) -> bool {
-    match batch_with(alloc, count, bytes) {
+    match packed_with(alloc, count, bytes) {
         Some(batch) => stream.push(program, batch).is_ok(),
         None => false,
     }
@@ -95,17 +139,6 @@ pub(crate) fn has(
     are_batches(alloc, stream.outlet(output).writer().taken.as_slice(), want)
 }
 
-/// Writes a batch at the end; whether it could.
-fn is_written(alloc: Global, bytes: &mut Vec<u8>, batch: &Batch) -> bool {
-    if !batch::fits(batch) {
-        return false;
-    }
-    match encode(alloc, batch) {
-        Ok(written) => bytes.extend_from_slice(&written).is_ok(),
-        Err(_) => false,
-    }
-}
-
 /// A number of records, and the byte that is the value of each with the key `k`, or neither.
 pub(crate) type Given = (usize, Option<u8>);
 
@@ -116,21 +149,12 @@ fn batch_given(alloc: Global, given: Given) -> Option<Batch> {
     }
 }
 
-/// Writes such a batch at the end; whether it could.
-fn is_put(alloc: Global, bytes: &mut Vec<u8>, given: Given) -> bool {
-    match batch_given(alloc, given) {
-        Some(batch) => is_written(alloc, bytes, &batch),
-        None => false,
-    }
-}
-
 /// The bytes of such batches. None where one doesn't fit or memory ran out.
 pub(crate) fn bytes_of(alloc: Global, rows: &[Given]) -> Option<Vec<u8>> {
     let mut bytes = Vec::new(alloc);
     for given in rows {
-        if !is_put(alloc, &mut bytes, *given) {
-            return None;
-        }
+        let written = spelled(alloc, &batch_given(alloc, *given)?)?;
+        bytes.extend_from_slice(&written).ok()?;
     }
     Some(bytes)
 }

@@ -1,10 +1,9 @@
 ghost use Rattle.batch_reader.specs.Readings.{IsOpen};
 
 use crate::interrupted::Interrupted;
-use crate::transforms::making::{damaged, has, stream_of};
+use crate::transforms::making::{damaged, first_wrong, has, stream_of};
 use crate::verdicts::all_hold;
 use batch_reader::{BatchReader, Position, ReadFault};
-use broker_fixtures::program_of;
 use fixtures::FORWARD;
 use log_item::Program;
 use std::alloc::Global;
@@ -113,20 +112,14 @@ fn ends_in_pieces(alloc: Global, program: &Program, damage: &Damage) -> bool {
     true
 }
 
-/// The number of the first row of which that is not so; 0 where there is no program of the image.
-fn first_other_end(alloc: Global, image: &[u8], rows: &[Damage]) -> Option<usize> {
-    let Some(program) = program_of(alloc, image) else {
-        return Some(0);
-    };
-    for (k, row) in rows.iter().enumerate() {
-        if !ends_in_pieces(alloc, &program, row) {
-            return Some(k);
-        }
-    }
-    None
-}
-
 #[test]
 fn rows_before_a_fault_are_written(rt: HostRuntime) {
-    all_hold(&rt, first_other_end(rt.alloc(), &FORWARD, &DAMAGES));
+    let alloc = rt.alloc();
+    let wrong = first_wrong(
+        alloc,
+        &FORWARD,
+        &DAMAGES,
+        |program, row| ends_in_pieces(alloc, program, row),
+    );
+    all_hold(&rt, wrong);
 }

@@ -6,10 +6,9 @@ ghost use Rattle.batch_reader.specs.Readings.{IsOpen};
 ghost use Rattle.transform.specs.Tellings.{telling};
 
 use crate::interrupted::Interrupted;
-use crate::transforms::making::{TWO, damaged, stream_of};
+use crate::transforms::making::{TWO, damaged, first_wrong, stream_of};
 use crate::verdicts::all_hold;
 use batch_reader::{BatchReader, Position};
-use broker_fixtures::program_of;
 use fixtures::FORWARD;
 use log_item::Program;
 use std::alloc::Global;
@@ -129,20 +128,14 @@ fn tells_so(alloc: Global, program: &Program, damage: &Damage) -> bool {
     }
 }
 
-/// The number of the first row of which that is not so; 0 where there is no program of the image.
-fn first_untold(alloc: Global, image: &[u8], rows: &[Damage]) -> Option<usize> {
-    let Some(program) = program_of(alloc, image) else {
-        return Some(0);
-    };
-    for (k, row) in rows.iter().enumerate() {
-        if !tells_so(alloc, &program, row) {
-            return Some(k);
-        }
-    }
-    None
-}
-
 #[test]
 fn a_watcher_is_told_of_each_batch(rt: HostRuntime) {
-    all_hold(&rt, first_untold(rt.alloc(), &FORWARD, &DAMAGES));
+    let alloc = rt.alloc();
+    let wrong = first_wrong(
+        alloc,
+        &FORWARD,
+        &DAMAGES,
+        |program, row| tells_so(alloc, program, row),
+    );
+    all_hold(&rt, wrong);
 }

@@ -1,4 +1,4 @@
-use Rattle.std.proofs.Common.{refl, sym, ◌∙◌, ap, get_or, []}
+use Rattle.std.proofs.Common.{refl}
 use Rattle.crc32c.specs.Register.{register_after}
 use Rattle.crc32c.proofs.Blocks.{after-next_block}
 use Rattle.crc32c.proofs.after_blocks.Goals as goal
@@ -9,7 +9,5 @@ loop-block-init c = refl
 
 pub loop-block-preserved : goal.loop-block-preserved
 loop-block-preserved c =
-    let block = get_or c.args.blocks.now c.loop-block.block-index [] in
-    c.after_block-r.ensures
-    ∙ ap (λ r. register_after r block) c.loop-block.invariant
-    ∙ sym (after-next_block c.args.r c.loop-block.block-index c.args.blocks.now c.loop-block-test.true)
+    let next = after-next_block c.args.r c.loop-block.block-index c.args.blocks.now c.loop-block-test.true in
+    cc

@@ -1,4 +1,4 @@
-use Rattle.std.proofs.Common.{◌≡◌, ap, arith, ◌∙◌, bit_xor, length, ◌/◌}
+use Rattle.std.proofs.Common.{◌≡◌, arith, ◌∙◌, length, ◌/◌}
 use Rattle.std.specs.List.{concat}
 use Rattle.crc32c.specs.Register.{register_after}
 use Rattle.crc32c.proofs.{Folding.after_window-none, Steps.checksum_is, Steps.each_below, Blocks.after-blocks}
@@ -17,9 +17,6 @@ returns c =
       | then-blocks-lt-MANY w ↦ w.r-is ∙ w.after_blocks-r.ensures
       | else-blocks-lt-MANY w ↦ w.r-is ∙ w.after_many-r.ensures ∙ after_window-none 0xFFFF_FFFF blocks are.0 are.1
     ] in
-    ap (λ r. bit_xor r 0xFFFF_FFFF)
-    (c.after_bytes.ensures
-    ∙ ap (λ r. register_after r rest) r-is
-    ∙ after-blocks 0xFFFF_FFFF 16 (length bytes / 16) bytes rest blocks c.as_chunks.ensures.front
-    c.as_chunks.ensures.back)
-    ∙ checksum_is bytes (λ i. omega (arith, c.type_inv.bytes i))
+    let whole = after-blocks 0xFFFF_FFFF 16 (length bytes / 16) bytes rest blocks c.as_chunks.ensures.front
+    c.as_chunks.ensures.back in
+    cc (checksum_is bytes (λ i. omega (arith, c.type_inv.bytes i)))

@@ -107,7 +107,7 @@ fn is_accepted(alloc: Global, image: &[u8], records: &[Record]) -> Option<bool> 
 type Accepted = Result<u32, (usize, u8)>;
 
 /// Changes the byte at a place; a second time it is as it was.
-fn flip(image: &mut [u8], place: usize, change: u8) {
+pub(crate) fn flip(image: &mut [u8], place: usize, change: u8) {
     if let Some(byte) = image.get_mut(place) {
         *byte ^= change;
     }

@@ -8,7 +8,7 @@ use annotate::{LoadFault, load};
 use bpf_asm::{AsmFault, assemble, disassemble};
 use bpf_machine::{End, trace};
 use exec::{Emissions, Outcome, is_place, is_within_limits, run};
-use explain::{Extent, explain_image, image_fault_text};
+use explain::{Coverage, explain_image, image_fault_text};
 use machine_spec::{IsaFault, Table};
 use notes::Verified;
 use std::alloc::{AllocError, Global};
@@ -172,7 +172,7 @@ const REFUSED: &str = "0 slot 0: ld8 r0, [r1+0]\n\x20 r1: value+0  r2: length of
     r4: length of key  r5: 0 to 3  r10: stack+512\nrefused: V7 RecordBounds at 0\n";
 
 fn explained(alloc: Global, image: &[u8], want: &str) -> Answer {
-    match explain_image(alloc, image, Table::One, Extent::All) {
+    match explain_image(alloc, image, Table::One, Coverage::All) {
         Ok(explanation) => of(explanation.lines.as_str() == want),
         Err(IsaFault::Memory) => Answer::Memory,
         Err(_) => Answer::Wrong,

@@ -3,7 +3,7 @@ use bytes::Bytes;
 use log_spec::Row;
 use machine_spec::Table;
 use script::{
-    Command, ScriptFault, Source, append_text, close_text, deploy_text, fetch_text, first_fault,
+    Command, FileWord, ScriptFault, append_text, close_text, deploy_text, fetch_text, first_fault,
     load_text, parse, push_row,
 };
 use std::alloc::{AllocError, Global};
@@ -11,10 +11,10 @@ use std::test::*;
 use wire_spec::Headers;
 
 /// A source as one text: its bytes, or the name of its file.
-fn source_shown(alloc: Global, source: &Source) -> Result<String, AllocError> {
+fn source_shown(alloc: Global, source: &FileWord) -> Result<String, AllocError> {
     match source {
-        Source::Line(bytes) => format!(in alloc; "hex {:?}", bytes.as_slice()),
-        Source::File(file) => String::from_str(alloc, file.text.as_str()),
+        FileWord::Line(bytes) => format!(in alloc; "hex {:?}", bytes.as_slice()),
+        FileWord::File(file) => String::from_str(alloc, file.text.as_str()),
     }
 }
 
@@ -22,7 +22,7 @@ fn source_shown(alloc: Global, source: &Source) -> Result<String, AllocError> {
 fn load_shown(
     alloc: Global,
     name: &str,
-    source: &Source,
+    source: &FileWord,
     table: Table,
 ) -> Result<String, AllocError> {
     let source = source_shown(alloc, source)?;
@@ -30,7 +30,7 @@ fn load_shown(
 }
 
 /// An `append` as one text.
-fn append_shown(alloc: Global, input: u64, source: &Source) -> Result<String, AllocError> {
+fn append_shown(alloc: Global, input: u64, source: &FileWord) -> Result<String, AllocError> {
     let source = source_shown(alloc, source)?;
     format!(in alloc; "append {input} {source}")
 }

@@ -17,11 +17,11 @@ fn forms_text(alloc: Global, forms: &[Decoded]) -> Result<String, AllocError> {
     Ok(text)
 }
 
-/// A load from the value has its region, and the jump over it the number of the exit.
+/// A load from the value has its region, and the jump over it the number of the exit as its last field.
 static FORMS: &str = "\
-Set { dst: 0, constant: 0 }
-IfStrictNumber { greater: false, dst: 2, constant: 1, slots: 1, target: 3 }
-LoadValueByte { dst: 0, base: 1, offset: 0 }
+Set(0, 0)
+IfStrictNumber(false, 2, 1, 1, 3)
+LoadValueByte(0, 1, 0)
 Exit
 ";
 
@@ -81,9 +81,9 @@ fn is_form(alloc: Global, form: Decoded, want: &str) -> bool {
 /// Instructions, the number of the instruction that a jump leads to, and the form. A number of 64 bits is in two
 /// halves; a jump has its target, and a comparison of 32 bits its width.
 static SINGLE: &str = "\
-imm64 r1, 1234605616436508552 | 0 | Rare(Wide { dst: 1, low: 1432778632, high: 287454020 })
-ja +2 | 9 | Rare(Jump { target: 9, distance: Short(2) })
-jlt32 r3, r4, +5 | 7 | Rare(JumpIf { width: Bits32, test: Less, dst: 3, src: 4, slots: 5, target: 7 })
+imm64 r1, 1234605616436508552 | 0 | Rare(Wide(1, 1432778632, 287454020))
+ja +2 | 9 | Rare(Jump(9, Short(2)))
+jlt32 r3, r4, +5 | 7 | Rare(JumpIf(Bits32, Less, 3, 4, 5, 7))
 ";
 
 fn is_single(alloc: Global, row: &str) -> Option<bool> {
@@ -99,11 +99,7 @@ fn single_instructions(rt: HostRuntime) {
 }
 
 /// A load of a byte of the value.
-const LOAD: Decoded = Decoded::LoadValueByte {
-    dst: 3,
-    base: 1,
-    offset: 7,
-};
+const LOAD: Decoded = Decoded::LoadValueByte(3, 1, 7);
 
 /// The range of bytes of which the test of a jump on r3 holds, as a load and a jump in one have it.
 fn range_of(jump: Instruction) -> Option<(u8, u8)> {
@@ -153,7 +149,7 @@ const BOTH: &str =
 fn a_load_and_its_jump_are_one(rt: HostRuntime) {
     let alloc = rt.alloc();
     all_hold(&rt, RANGES, |row| has_range(alloc, row));
-    let load = "LoadValueByte { dst: 3, base: 1, offset: 7 }";
+    let load = "LoadValueByte(3, 1, 7)";
     assert!(rt; is_form(alloc, paired(LOAD, jump_on(4), 9), load));
     assert!(rt; is_form(alloc, paired(LOAD, jump_on(3), 9), BOTH));
 }

@@ -1,5 +1,4 @@
-use Rattle.std.proofs.Common.{pos, neg_ℤ, ◌≤ℤ◌, arith}
-use Rattle.std.proofs.lemmas.Int.{ints}
+use Rattle.std.proofs.{Common.pos, Common.neg_ℤ, Common.◌≤ℤ◌, Common.arith, lemmas.Int.ints}
 use Rattle.verifier_spec.specs.Kinds.{furthest}
 use Rattle.abstract_regs.proofs.Moves.{moved_bounds, ends_proper}
 use Rattle.abstract_regs.proofs.transfer.address_moved.Goals as goal
@@ -8,15 +7,13 @@ pub moved_by-requires : goal.moved_by-requires
 moved_by-requires c =
     let b = moved_bounds c.args.operation c.args.region c.args.low c.args.high c.args.range c.requires.address
     c.requires.range c.requires.can in
-    let e = c.least_displacement-least.ensures in
-    record { from = omega (arith, ints, b.from, b.order, b.to, e); to = omega (arith, ints, b.from, b.order, b.to, e) }
+    omega (arith, ints, b.from, b.order, b.to, c.least_displacement-least.ensures)
 
 pub moved_by-requires-2 : goal.moved_by-requires-2
 moved_by-requires-2 c =
     let b = moved_bounds c.args.operation c.args.region c.args.low c.args.high c.args.range c.requires.address
     c.requires.range c.requires.can in
-    let e = c.greatest_displacement-greatest.ensures in
-    record { from = omega (arith, ints, b.from, b.order, b.to, e); to = omega (arith, ints, b.from, b.order, b.to, e) }
+    omega (arith, ints, b.from, b.order, b.to, c.greatest_displacement-greatest.ensures)
 
 pub returns-clause-proper : goal.returns-clause-proper
 returns-clause-proper c =

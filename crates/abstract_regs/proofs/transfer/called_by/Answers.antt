@@ -1,6 +1,5 @@
-use Rattle.std.proofs.Common.{sym, rules, FitsSigned}
+use Rattle.std.proofs.{Common.sym, Common.rules, Common.FitsSigned, lemmas.Int.to_z-of_z}
 use Rattle.std.specs.Int.{w32}
-use Rattle.std.proofs.lemmas.Int.{to_z-of_z}
 use Rattle.abstract_regs.proofs.Passes.{arguments_right}
 use Rattle.abstract_regs.proofs.transfer.called_by.Goals as goal
 

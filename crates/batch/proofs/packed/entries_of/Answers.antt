@@ -1,5 +1,4 @@
-use Rattle.std.proofs.Common.{◌≡◌, ◌∙◌, ◌+◌, ◌≤◌, suc, [], ◌∷◌, ◌++◌, length, drop, get_or, drop-cons, subst, sym, ap}
-use Rattle.std.proofs.Common.{arith}
+use Rattle.std.proofs.Common.{◌≡◌, ◌∙◌, ◌+◌, suc, [], ◌∷◌, ◌++◌, drop, get_or, drop-cons, subst, sym, ap, arith}
 use Rattle.std.proofs.{lemmas.List.drop_all, lemmas.Result.err_from_is_err_and}
 use Rattle.wire_spec.specs.BatchReading.{records_at}
 use Rattle.kafka_record.specs.Spans.{spanned}
@@ -10,29 +9,24 @@ use Rattle.batch.proofs.packed.entries_of.Goals as goal
 
 pub returns-in_err-found-clause-gives : goal.returns-in_err-found-clause-gives
 returns-in_err-found-clause-gives c =
+    let l = c.loop-place in let bytes = c.args.bytes.now in
     let p = err_from_is_err_and c.from_residual-in_err-found.result c.from_residual-in_err-found.ensures.1 in
-    rw (p.1, p.2) (ends c.in_err-found.field-0.0
-    (entry_records c.args.bytes.now c.loop-place.headers.items c.loop-place.list.items) c.args.count
-    c.loop-place.place (drop c.loop-place.at c.args.bytes.now) (records_at c.args.count 0 (drop 61 c.args.bytes.now))
-    c.loop-place-test.true c.in_err-found.ensures.gives c.loop-place.invariant.read)
+    rw (p.1, p.2) (ends c.in_err-found.field-0.0 (entry_records bytes l.headers.items l.list.items) c.args.count l.place
+    (drop l.at bytes) (records_at c.args.count 0 (drop 61 bytes)) c.loop-place-test.true c.in_err-found.ensures.gives
+    l.invariant.read)
 
 pub returns-then-at-end-clause-gives : goal.returns-then-at-end-clause-gives
 returns-then-at-end-clause-gives c =
-    let same : c.loop-place.place ≡ c.args.count = omega arith in
-    let left : suc c.loop-place.at ≤ length c.args.bytes.now = omega arith in
-    let some = drop-cons c.args.bytes.now c.loop-place.at 0 left in
-    λ _. is_over (entry_records c.args.bytes.now c.loop-place.headers.items c.loop-place.list.items) c.args.count
-    c.loop-place.place (get_or c.args.bytes.now c.loop-place.at 0) (drop (suc c.loop-place.at) c.args.bytes.now)
-    (drop c.loop-place.at c.args.bytes.now) (records_at c.args.count 0 (drop 61 c.args.bytes.now)) same some
-    c.loop-place.invariant.read
+    let l = c.loop-place in let bytes = c.args.bytes.now in
+    λ _. is_over (entry_records bytes l.headers.items l.list.items) c.args.count l.place (get_or bytes l.at 0)
+    (drop (suc l.at) bytes) (drop l.at bytes) (records_at c.args.count 0 (drop 61 bytes)) (omega arith)
+    (drop-cons bytes l.at 0 (omega arith)) l.invariant.read
 
 pub returns-clause-gives : goal.returns-clause-gives
 returns-clause-gives c =
-    let same : c.loop-place.place ≡ c.args.count = omega arith in
-    let none : drop c.loop-place.at c.args.bytes.now ≡ [] = drop_all c.loop-place.at c.args.bytes.now (omega arith) in
-    is_done (entry_records c.args.bytes.now c.loop-place.headers.items c.loop-place.list.items) c.args.count
-    c.loop-place.place (drop c.loop-place.at c.args.bytes.now) (records_at c.args.count 0 (drop 61 c.args.bytes.now))
-    same none c.loop-place.invariant.read
+    let l = c.loop-place in let bytes = c.args.bytes.now in
+    is_done (entry_records bytes l.headers.items l.list.items) c.args.count l.place (drop l.at bytes)
+    (records_at c.args.count 0 (drop 61 bytes)) (omega arith) (drop_all l.at bytes (omega arith)) l.invariant.read
 
 pub loop-place-preserved : goal.loop-place-preserved
 loop-place-preserved c =

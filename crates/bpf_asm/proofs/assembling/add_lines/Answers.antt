@@ -1,7 +1,5 @@
-use Rattle.std.proofs.Common.{◌≡◌, ◌-◌, ◌≤◌, ◌∙◌, ap, length, drop, take, arith}
-use Rattle.std.specs.List.{position_or_len}
+use Rattle.std.proofs.Common.{◌∙◌, ap, length, take, arith}
 use Rattle.std.proofs.{lemmas.List.take_rest, lemmas.List.length-drop, lemmas.Result.err_from_is_err_and}
-use Rattle.bpf_asm.specs.Reading.{is_line_feed}
 use Rattle.bpf_asm.proofs.Lines.{read_more, read_refused}
 use Rattle.bpf_asm.proofs.assembling.add_lines.Goals as goal
 
@@ -10,18 +8,14 @@ loop-start-preserved c =
     let text = c.args.text.now in
     let start = c.loop-start.start in
     let end = c.place_of-end.result in
-    let within : start ≤ length text = omega arith in
-    let rest : take (length text - start) (drop start text) ≡ drop start text = take_rest text start in
-    let place : end ≡ position_or_len is_line_feed (drop start text) = c.place_of-end.ensures.is
-    ∙ ap (position_or_len is_line_feed) rest in
-    let line = take end (take (length text - start) (drop start text)) in
-    let size : length (take (length text - start) (drop start text)) ≡ length text - start = ap length rest
-    ∙ length-drop start text in
+    let rest = take_rest text start in
+    let place = rw rest at c.place_of-end.ensures.is in
+    let size = ap length rest ∙ length-drop start text in
     record {
       within = omega arith;
       counted = omega arith;
-      read = read_more text line c.loop-start.image.items c.add_line.new.image.items c.loop-start.number start end
-          within place (ap (take end) rest) c.in_ok-add_line.ensures.ok c.loop-start.invariant.read;
+      read = read_more text _ _ _ c.loop-start.number start end (omega arith) place (ap (take end) rest)
+          c.in_ok-add_line.ensures.ok c.loop-start.invariant.read;
     }
 
 pub returns-in_err-add_line-clause-err : goal.returns-in_err-add_line-clause-err
@@ -29,12 +23,9 @@ returns-in_err-add_line-clause-err c =
     let text = c.args.text.now in
     let start = c.loop-start.start in
     let end = c.place_of-end.result in
-    let within : start ≤ length text = omega arith in
-    let rest : take (length text - start) (drop start text) ≡ drop start text = take_rest text start in
-    let place : end ≡ position_or_len is_line_feed (drop start text) = c.place_of-end.ensures.is
-    ∙ ap (position_or_len is_line_feed) rest in
-    let line = take end (take (length text - start) (drop start text)) in
+    let rest = take_rest text start in
+    let place = rw rest at c.place_of-end.ensures.is in
     let p = err_from_is_err_and c.from_residual.result c.from_residual.ensures.1 in
-    rw (p.1, p.2) (λ other. read_refused text line c.loop-start.image.items c.loop-start.number start end
-    c.in_err-add_line.field-0.0 within place (ap (take end) rest) (c.in_err-add_line.ensures.err other)
-    c.loop-start.invariant.read)
+    rw (p.1, p.2)
+    (λ other. read_refused text _ _ c.loop-start.number start end c.in_err-add_line.field-0.0 (omega arith) place
+    (ap (take end) rest) (c.in_err-add_line.ensures.err other) c.loop-start.invariant.read)

@@ -1,4 +1,4 @@
-use Rattle.std.proofs.Common.{◌≡◌, ◌+◌, ℕ, [], ◌∷◌, ◌++◌, length-append, refl, sym, ap, ◌∙◌, length, arith, rules}
+use Rattle.std.proofs.Common.{◌≡◌, ◌+◌, [], ◌∷◌, ◌++◌, length-append, refl, sym, ap, ◌∙◌, length, arith, rules}
 use Rattle.std.proofs.lemmas.Result.{err_from_is_err_and}
 use Rattle.machine_spec.specs.{Image.slots_of, declared.instruction.Placed.Placed}
 use Rattle.bpf_isa.proofs.Bytes.{some_slots}
@@ -9,12 +9,8 @@ pub loop-slot-init : goal.loop-slot-init
 loop-slot-init c =
     let none : c.in_ok-placed.placed ≡ [] = search rules in
     let numbers : c.in_ok-numbers.numbers ≡ [] = search rules in
-    rw (none, numbers) (record {
-      slots = refl;
-      few = omega arith;
-      table = table_none;
-      so_far = starts c.args.image.now;
-    })
+    rw (none, numbers)
+    (record { slots = refl; few = omega arith; table = table_none; so_far = starts c.args.image.now })
 
 pub returns-in_err-instruction : goal.returns-in_err-instruction
 returns-in_err-instruction c =
@@ -33,9 +29,7 @@ loop-slot-preserved c =
     search rules in
     let slots : length c.push.new.numbers ≡ length c.loop-slot.numbers + slots_of c.in_ok-instruction.instruction =
     search rules in
-    let code : c.push.new.placed ≡ front ++ p ∷ [] = pushed
-    ∙ ap (λ (slot : ℕ). front ++ record { slot = slot; instruction = c.in_ok-instruction.instruction } ∷ [])
-    c.loop-slot.invariant.slots in
+    let code : c.push.new.placed ≡ front ++ p ∷ [] = rw c.loop-slot.invariant.slots at pushed in
     let longer : length c.push.new.placed ≡ length front + 1 = ap length code ∙ length-append front (p ∷ []) in
     let so_far = goes_on c.args.image.now front c.loop-slot.slot c.in_ok-instruction.instruction _
     c.loop-slot.invariant.few c.loop-slot-test.true (sym c.in_ok-instruction.ensures) c.loop-slot.invariant.so_far in

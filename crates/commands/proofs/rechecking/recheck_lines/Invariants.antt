@@ -4,5 +4,5 @@ use Rattle.commands.proofs.RecheckLaws.{Rechecked}
 use Rattle.commands.proofs.rechecking.recheck_lines.Given as goal
 
 abbrev pub invariant-loop-index : goal.invariant-loop-index
-invariant-loop-index g l = Rechecked (g.F.Files.bytes l.initial.files) (g.F.Files.bytes l.files)
-    (take l.index (texts l.lines)) l.refused (g.O.Write.contents l.initial.stdout) (g.O.Write.contents l.stdout)
+invariant-loop-index g l =
+    Rechecked g.F.Files.bytes g.O.Write.contents l.initial.host l.host (take l.index (texts l.lines)) l.refused

@@ -17,7 +17,7 @@ is_with_file name content before after held kept other = elim (cases_Bool (bytes
 pub returns-in-Ok : goal.returns-in-Ok
 returns-in-Ok c =
     subst (λ (files : List ℕ → Option (List ℕ)). RechecksAs files c.args.list.now c.recheck.result
-    (Some c.args.stdout.now.items) (Some c.recheck.new.stdout.items))
-    (fun_ext (is_with_file (codes "list") c.args.list.now (bytes_in c.args.files.now.files)
+    (Some c.args.host.now.stdout.items) (Some c.recheck.new.host.stdout.items))
+    (fun_ext (is_with_file (codes "list") c.args.list.now (bytes_in c.args.host.now.files.files)
     (bytes_in c.write.new.self.files) c.in-Ok.ensures.held c.write.ensures.kept))
-    (c.recheck.ensures.told c.args.list.now c.in-Ok.ensures.held)
+    (c.recheck.ensures.printed c.args.list.now c.in-Ok.ensures.held)

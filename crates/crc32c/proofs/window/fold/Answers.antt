@@ -1,7 +1,6 @@
-use Rattle.std.proofs.Common.{rules, ◌≡◌, ◌+◌, ◌-◌, ◌≤◌, ◌<◌, ◌^◌, [], ◌∷◌, ◌++◌, length, get_or, drop, sym, ◌∙◌, ap}
-use Rattle.std.proofs.Common.{arith, length-append, drop_of_length-le}
+use Rattle.std.proofs.Common.{rules, ◌≡◌, ◌+◌, ◌-◌, ◌≤◌, ◌<◌, ◌^◌, [], ◌∷◌, ◌++◌, length, get_or, drop, ◌∙◌, arith}
+use Rattle.std.proofs.Common.{length-append, drop_of_length-le}
 use Rattle.std.proofs.lemmas.List.{drop_more}
-use Rattle.crc32c.specs.Window.{after_window, window_at}
 use Rattle.crc32c.proofs.Places.{fold-step, window_at-front}
 use Rattle.crc32c.proofs.window.fold.Goals as goal
 
@@ -17,10 +16,9 @@ loop-place-preserved c rest long =
     let enough : 209 ≤ length others = omega (arith, length-append (drop (place + 1) blocks) rest) in
     let split : drop place blocks ≡ block ∷ drop (place + 1) blocks =
     drop_more blocks place [] c.loop-place-test.true in
-    fold-step place c.folded.result space block others (omega arith) c.folded.ensures.fit below enough
-    (c.folded.ensures.next 0 others)
-    ∙ ap (λ bs. after_window 0 (window_at place space) (bs ++ rest)) (sym split)
-    ∙ c.loop-place.invariant rest long
+    let step = fold-step place c.folded.result space block others (omega arith) c.folded.ensures.fit below enough
+    (c.folded.ensures.next 0 others) in
+    step ∙ rw split at (c.loop-place.invariant rest long)
 
 pub returns : goal.returns
 returns c rest long =
@@ -31,8 +29,5 @@ returns c rest long =
     let room : length space ≡ 627 = search rules in
     let all : n ≡ place = omega arith in
     let none : drop place blocks ≡ [] = drop_of_length-le blocks (omega arith) in
-    ap (λ w. after_window 0 w rest) (ap (window_at 0) c.copy_within.ensures.after
-    ∙ window_at-front n (n + 209 - n) space (omega arith) (omega arith))
-    ∙ ap (λ k. after_window 0 (window_at k space) rest) all
-    ∙ ap (λ bs. after_window 0 (window_at place space) (bs ++ rest)) (sym none)
-    ∙ c.loop-place.invariant rest long
+    let front = window_at-front n (n + 209 - n) space (omega arith) (omega arith) in
+    rw (c.copy_within.ensures.after, front, all) (rw none at (c.loop-place.invariant rest long))

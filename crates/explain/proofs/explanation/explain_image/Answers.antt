@@ -15,8 +15,8 @@ returns-in-Ok-explained c =
     let claims = c.in-Ok.states.items in
     let fault = c.in_ok-fault.fault in
     let explanation = c.in-Ok-explained.explanation in
-    let lines : string_bytes explanation.lines ≡ listing c.args.extent code claims fault = search rules in
+    let lines : string_bytes explanation.lines ≡ listing c.args.coverage code claims fault = search rules in
     let refusal : explanation.refusal ≡ option_map (refusal_at c.args.table code claims) fault = search rules in
     explained (program_of c.args.image.now c.args.table) code c.in_ok-code.ensures.is_code c.in_ok-code.ensures.exact
-    c.in-Ok.ensures.proper c.args.extent claims fault explanation c.in-Ok.ensures.states
+    c.in-Ok.ensures.proper c.args.coverage claims fault explanation c.in-Ok.ensures.states
     c.in_ok-fault.ensures lines refusal

@@ -12,9 +12,9 @@ use Rattle.item_rows.proofs.outcomes.push_ended.Goals as goal
 
 pub returns-in_ok-push_row-in-Some-clause-pushed : goal.returns-in_ok-push_row-in-Some-clause-pushed
 returns-in_ok-push_row-in-Some-clause-pushed c = λ ended at.
-    let first = c.args.first in let place = c.args.place.now in let one = c.args.all.now in
+    let first = c.args.first in let place = c.args.at.now.place.now in let one = c.args.all.now in
     let two = c.push_row.new.all in
-    let given = c.args.given.now in
+    let given = c.args.at.now.given.now in
     let is = alone_is ended.ending ended.emitted c.in-Some.out (sym c.in-Some.is ∙ c.kept_alone.ensures ended at) in
     subst (λ (e : Ending). (fate.Kept ≡ fate_of (outcome_with e (emissions_in given ended.emitted)))
     × Adds first one two (λ q here. here ≡ rows_of q place (outcome_with e (emissions_in given ended.emitted))))
@@ -25,8 +25,8 @@ returns-in_ok-push_row-in-Some-clause-pushed c = λ ended at.
 
 pub returns-in_ok-fate-in-None-clause-pushed : goal.returns-in_ok-fate-in-None-clause-pushed
 returns-in_ok-fate-in-None-clause-pushed c = λ ended at.
-    let first = c.args.first in let place = c.args.place.now in let one = c.args.all.now in let two =
-    c.push_outcome.new.all in let given = c.args.given.now in
+    let first = c.args.first in let place = c.args.at.now.place.now in let one = c.args.all.now in let two =
+    c.push_outcome.new.all in let given = c.args.at.now.given.now in
     subst (λ (e : Ended). (c.in_ok-fate-in-None.fate ≡ fate_of (outcome_in given e))
     × Adds first one two (λ q here. here ≡ rows_of q place (outcome_in given e)))
     (same_Some _ _ (sym c.take-ending.ensures.ended ∙ at)) c.in_ok-fate-in-None.ensures

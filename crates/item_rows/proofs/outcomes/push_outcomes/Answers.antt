@@ -32,9 +32,9 @@ push_ended-requires-clause-place c = c.requires.ranges c.loop-index.index nowher
 
 pub add-requires : goal.add-requires
 add-requires c =
-    let block = c.args.block.now in let records = records_from c.args.from (length block) c.args.logged.now.records in
+    let block = c.args.block.now in let records = records_from c.args.records.now.from (length block) c.args.records.now.logged.now.records in
     let outcomes = outcomes_of records block in let k = c.loop-index.index in
-    let long = between_long c.args.logged.now.records c.args.from (length block) c.requires.records in
+    let long = between_long c.args.records.now.logged.now.records c.args.records.now.from (length block) c.requires.records in
     omega (
       arith,
       c.loop-index.invariant.counts.records,
@@ -49,8 +49,8 @@ add-requires c =
 
 pub loop-index-preserved : goal.loop-index-preserved
 loop-index-preserved c =
-    let first = c.args.first in let places = c.args.places.now in let block = c.args.block.now in let all_records =
-    c.args.logged.now.records in let records = records_from c.args.from (length block) all_records in
+    let first = c.args.first in let places = c.args.records.now.places.now in let block = c.args.block.now in let all_records =
+    c.args.records.now.logged.now.records in let records = records_from c.args.records.now.from (length block) all_records in
     let outcomes = outcomes_of records block in let k = c.loop-index.index in let inv = c.loop-index.invariant in
     let done = take k outcomes in
     let in_block : k < length block = omega (arith, c.loop-index-test.true, c.requires.places) in
@@ -60,9 +60,9 @@ loop-index-preserved c =
     let given = c.new-given.result in
     let outcome = outcome_in given ended in let place = get_or places k nowhere in
     let lt : k < length places = c.loop-index-test.true in
-    let long = between_long all_records c.args.from (length block) c.requires.records in
+    let long = between_long all_records c.args.records.now.from (length block) c.requires.records in
     let within : k < length outcomes = omega (arith, lt, c.requires.places, long, outcomes_long records block long) in
-    let at = between_at all_records c.args.from (length block) k given (omega (arith, lt, c.requires.places))
+    let at = between_at all_records c.args.records.now.from (length block) k given (omega (arith, lt, c.requires.places))
     c.requires.records c.new-given.ensures in
     let here : slice_get outcomes k ≡ Some outcome = outcome_here records block k given ended
     (omega (arith, lt, c.requires.places, long)) (omega (arith, lt, c.requires.places)) at there in
@@ -90,9 +90,9 @@ loop-index-preserved c =
 
 pub returns : goal.returns
 returns c =
-    let block = c.args.block.now in let records = records_from c.args.from (length block) c.args.logged.now.records in
+    let block = c.args.block.now in let records = records_from c.args.records.now.from (length block) c.args.records.now.logged.now.records in
     let outcomes = outcomes_of records block in
-    let long = between_long c.args.logged.now.records c.args.from (length block) c.requires.records in
+    let long = between_long c.args.records.now.logged.now.records c.args.records.now.from (length block) c.requires.records in
     let whole : take c.loop-index.index outcomes ≡ outcomes =
     take_all c.loop-index.index outcomes (omega (
       arith,
@@ -103,7 +103,7 @@ returns c =
     )) in
     record {
       rows = subst (λ (os : List Outcome). Adds c.args.first c.args.all.now c.loop-index.all
-          (λ q here. here ≡ rows_of_each q c.args.places.now os)) whole c.loop-index.invariant.rows;
+          (λ q here. here ≡ rows_of_each q c.args.records.now.places.now os)) whole c.loop-index.invariant.rows;
       counts = subst (λ (os : List Outcome). AreFatesMore (map fate_of os) c.args.counts.now c.loop-index.counts) whole
           c.loop-index.invariant.counts;
     }

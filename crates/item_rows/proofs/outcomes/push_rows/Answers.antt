@@ -12,8 +12,8 @@ pub loop-emitted-preserved : goal.loop-emitted-preserved
 loop-emitted-preserved c =
     let inv = c.loop-emitted.invariant in let done = c.loop-emitted.yielded in
     let emitted = c.in-Some.emitted in let given =
-    c.args.given.now in let emission = emission_in given emitted in let first = c.args.first in let place =
-    c.args.place.now in
+    c.args.at.now.given.now in let emission = emission_in given emitted in let first = c.args.first in let place =
+    c.args.at.now.place.now in
     let long : c.loop-emitted.number ≡ length (emissions_in given done) =
     omega (arith, inv.4, length-map done (emission_in given)) in (
       tt,
@@ -31,7 +31,7 @@ loop-emitted-preserved c =
 
 pub returns-clause-rows : goal.returns-clause-rows
 returns-clause-rows c =
-    let done = c.loop-emitted.yielded in let list = c.args.list.now in let given = c.args.given.now in
+    let done = c.loop-emitted.yielded in let list = c.args.list.now in let given = c.args.at.now.given.now in
     let all : drain_items c.into_iter-emitted-iterator.result ≡ list.items =
     ap drain_items c.into_iter-emitted-iterator.ensures.into_iter_gives
     ∙ (c.drain-emitted-items.ensures.rest ∙ take_all (list.len - 0) list.items (omega (arith, list.ok.0))) in
@@ -39,4 +39,4 @@ returns-clause-rows c =
     sym (append-nil done) ∙ (ap (λ (es : List Emitted). done ++ es) (sym c.in-None.ensures.steps.0)
     ∙ (c.loop-emitted.invariant.3 ∙ all)) in
     subst (λ (es : List Emitted). Adds c.args.first c.args.all.now c.loop-emitted.all
-    (λ q here. here ≡ rows_to q c.args.place.now 0 (emissions_in given es))) whole c.loop-emitted.invariant.5
+    (λ q here. here ≡ rows_to q c.args.at.now.place.now 0 (emissions_in given es))) whole c.loop-emitted.invariant.5

@@ -12,4 +12,4 @@ invariant-loop-emitted l =
     × DrainKeeps l.initial.emitted-iterator l.emitted-iterator
     × (l.yielded ++ drain_items l.emitted-iterator ≡ drain_items l.initial.emitted-iterator)
     × (l.number ≡ length l.yielded)
-    × Adds l.first l.initial.all l.all (λ q here. here ≡ rows_to q l.place 0 (emissions_in l.given l.yielded))
+    × Adds l.first l.initial.all l.all (λ q here. here ≡ rows_to q l.at.place.now 0 (emissions_in l.at.given.now l.yielded))

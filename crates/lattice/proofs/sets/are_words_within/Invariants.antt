@@ -1,5 +1,5 @@
 use Rattle.std.proofs.Common.{ℕ, ◌<◌}
-use Rattle.lattice.proofs.Words.{HasBits}
+use Rattle.lattice.proofs.Below.{HasBits}
 use Rattle.lattice.proofs.sets.are_words_within.Given as goal
 
 abbrev pub invariant-loop-word : goal.invariant-loop-word

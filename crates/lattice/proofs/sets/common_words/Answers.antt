@@ -7,8 +7,7 @@ loop-word-preserved c =
     let both = λ (k : ℕ). bit_and (slice_index c.args.words.now k) (slice_index c.args.others.now k) in
     let (long, each) = c.loop-word.invariant in
     let word = c.loop-word.word in (
-      length-set c.loop-word.common word (both word)
-          ∙ long,
+      length-set c.loop-word.common word (both word) ∙ long,
       fill_by_more both c.loop-word.common word 0 (omega (arith, long)) each,
     )
 

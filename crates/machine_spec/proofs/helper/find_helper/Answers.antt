@@ -4,9 +4,7 @@ use Rattle.std.specs.Ordering.{int_eq}
 use Rattle.std.proofs.{Math.Seq.drop-cons, lemmas.Bool.cond-true, lemmas.Bool.Decides.Decides-int_eq, lemmas.Int.ints}
 use Rattle.std.proofs.lemmas.Int.{to_z-of_z}
 use Rattle.machine_spec.specs.{declared.helper.Signature.Signature, declared.helper.Helper.Helper, Machine.signature_of}
-use Rattle.machine_spec.specs.declared.helper.Helper.TheVariants.{LoadValue, LoadKey, EmitRecord, EmitValue, Emit}
-use Rattle.machine_spec.specs.declared.helper.Helper.TheVariants.{EmitNull, Offset, Timestamp, Partition, HeaderCount}
-use Rattle.machine_spec.specs.declared.helper.Helper.TheVariants.{HeaderKey, HeaderValue}
+use Rattle.machine_spec.specs.declared.helper.Helper.TheVariants.{LoadValue}
 use Rattle.machine_spec.proofs.helper.find_helper.Goals as goal
 
 -- what a search from a place on finds there
@@ -22,17 +20,7 @@ same_word a b f g e = sym (to_z-of_z w32 a f) ∙ ap (to_z w32) e ∙ to_z-of_z 
 
 number_fits : (helper : Helper) → FitsSigned w32 (signature_of helper).number
 number_fits LoadValue = omega (arith, ints)
-number_fits LoadKey = omega (arith, ints)
-number_fits EmitRecord = omega (arith, ints)
-number_fits EmitValue = omega (arith, ints)
-number_fits Emit = omega (arith, ints)
-number_fits EmitNull = omega (arith, ints)
-number_fits Offset = omega (arith, ints)
-number_fits Timestamp = omega (arith, ints)
-number_fits Partition = omega (arith, ints)
-number_fits HeaderCount = omega (arith, ints)
-number_fits HeaderKey = omega (arith, ints)
-number_fits HeaderValue = omega (arith, ints)
+number_fits _ = omega (arith, ints)
 
 pub returns-then-signature-number : goal.returns-then-signature-number
 returns-then-signature-number c =

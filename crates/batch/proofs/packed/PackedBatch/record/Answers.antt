@@ -13,20 +13,18 @@ few batch bytes lists entries head index is lt =
 
 pub record_of-requires : goal.record_of-requires
 record_of-requires c =
-    subst (λ (lists : List (List Header)). IsEntryOf c.self.inside.bytes lists c.index.result.now)
-    (sym c.as_slice.ensures.value) (entry_at c.self.inside.bytes c.self.inside.headers.items
-    c.self.inside.entries.items c.args.index
-    c.index.result.now c.self.invariant
-    (few c.args.self.now c.self.inside.bytes c.self.inside.headers.items c.self.inside.entries.items c.self.inside.head
-    c.args.index c.self.view_is c.requires) c.index.ensures)
+    let b = c.self.inside in
+    subst (λ (lists : List (List Header)). IsEntryOf b.bytes lists c.index.result.now) (sym c.as_slice.ensures.value)
+    (entry_at b.bytes b.headers.items b.entries.items c.args.index c.index.result.now c.self.invariant.0
+    (few c.args.self.now b.bytes b.headers.items b.entries.items b.head c.args.index c.self.view_is c.requires)
+    c.index.ensures)
 
 pub returns : goal.returns
 returns c =
+    let b = c.self.inside in
     ap (λ (b : Batch). slice_get b.records c.args.index) (sym c.self.view_is)
-    ∙ record_at c.self.inside.bytes c.self.inside.headers.items c.self.inside.entries.items c.args.index
-    c.index.result.now
-    (few c.args.self.now c.self.inside.bytes c.self.inside.headers.items c.self.inside.entries.items c.self.inside.head
-    c.args.index c.self.view_is c.requires) c.index.ensures
-    ∙ ap (λ (lists : List (List Header)). Some (entry_record c.self.inside.bytes lists c.index.result.now))
-    (sym c.as_slice.ensures.value)
-    ∙ ap (λ (r : Record). Some r) (sym c.record_of.ensures)
+    ∙ record_at b.bytes b.headers.items b.entries.items c.args.index c.index.result.now
+    (few c.args.self.now b.bytes b.headers.items b.entries.items b.head c.args.index c.self.view_is c.requires)
+    c.index.ensures
+    ∙ ap (λ (lists : List (List Header)). Some (entry_record b.bytes lists c.index.result.now))
+    (sym c.as_slice.ensures.value) ∙ ap (λ (r : Record). Some r) (sym c.record_of.ensures)

@@ -1,20 +1,14 @@
-use Rattle.std.proofs.Common.{rules, ◌<◌, List, length, refl, ap, sym, ◌∙◌, arith, slice_get}
+use Rattle.std.proofs.Common.{◌<◌, List, length, refl, ap, sym, ◌∙◌, arith, slice_get}
 use Rattle.std.proofs.lemmas.Option.{slice_get_read}
 use Rattle.machine_spec.specs.declared.instruction.Placed.{Placed}
 use Rattle.bpf_isa.proofs.SideBySide.{placed_length, placed_get}
 use Rattle.bpf_isa.proofs.placed_list.PlacedList.get.Goals as goal
 
 pub index-requires : goal.index-requires
-index-requires c =
-    let long = placed_length c.self.inside.slots.items c.self.inside.instructions.items c.self.invariant in
-    let within : c.args.k < length c.self.inside.slots.items = omega (arith, ap length c.self.view_is) in
-    search (rules, within)
+index-requires c = omega (arith, placed_length _ _ c.self.invariant, ap length c.self.view_is)
 
 pub index-requires-2 : goal.index-requires-2
-index-requires-2 c =
-    let long = placed_length c.self.inside.slots.items c.self.inside.instructions.items c.self.invariant in
-    let within : c.args.k < length c.self.inside.instructions.items = omega (arith, ap length c.self.view_is) in
-    search (rules, within)
+index-requires-2 c = omega (arith, placed_length _ _ c.self.invariant, ap length c.self.view_is)
 
 pub returns : goal.returns
 returns c =

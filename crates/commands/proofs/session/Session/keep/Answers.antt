@@ -1,5 +1,5 @@
-use Rattle.std.proofs.Common.{◌∙◌, sym, subst, refl, string_bytes}
-use Rattle.commands.specs.Sessions.{Running, by_text, scripted, Learns}
+use Rattle.std.proofs.Common.{◌∙◌, sym, refl, string_bytes}
+use Rattle.commands.specs.Sessions.{by_text, scripted, Learns}
 use Rattle.commands.proofs.Loaded.{learned, still_named}
 use Rattle.commands.proofs.session.Session.keep.Goals as goal
 
@@ -13,10 +13,10 @@ invariant_of-self g c = (
 pub returns-in-Ok-clause-kept : goal.returns-in-Ok-clause-kept
 returns-in-Ok-clause-kept g c =
     let inputs = c.self.inside.broker in
-    let now = scripted inputs (by_text c.insert.new.self.entries) in
-    let kept : Learns c.args.known (scripted inputs (by_text c.self.inside.loaded.entries)) now = record {
+    let kept : Learns c.args.known (scripted inputs (by_text c.self.inside.loaded.entries))
+    (scripted inputs (by_text c.insert.new.self.entries)) = record {
       inputs_are = refl;
       known_are = learned (string_bytes c.name.inside.text) c.args.known c.self.inside.loaded c.insert.new.self
           (c.requires ∙ sym c.name.view_is) c.in-Ok.ensures.updates;
     } in
-    subst (λ (s : Running). Learns c.args.known s.script now) c.self.view_is kept
+    rw (← c.self.view_is) kept

@@ -1,87 +1,41 @@
 -- `empty` makes a place that owns nothing of its pointer.
-use mathlib.Core.Path.{refl, sym, subst}
-use mathlib.Core.Bool.{Bool, true, false, ◌&&◌}
-use mathlib.Core.List.{List, [], ◌∷◌, ◌++◌}
-use lib.Dec.{T}
-use seplogic.Ra.Ura.{Ura}
-use mir.Val.{Val, vstruct, vcons, vnil, vnull}
-use base.Logic.{SProp, ent, emp}
-use base.Fml.{ftrue, fsep}
-use prog.Memory.{Memory}
-use prog.Routine.{Routine}
-use prog.Wp.{WpFn, Tables}
-use types.Logic.{Logic}
-use contract.Monad.{Fun}
-use contract.Running.{tables, tables_of}
-use sound.WpLaws.{WpFn-mono}
-use types.Kit.{Item, ‵, raw, ◌⊛◌, ◌$◌, ◌∵◌, !, qed, by, move, drop, join, split, fsplit, fjoin, fpack, feq_i, suffices}
-use types.Kit.{done}
-use types.Part.{agg}
-use types.Run.{no_more, and_then, lit, returns, enter}
-use types.ByLocal.{alloc_all, pass_all, free_all, look_at, get, sets}
-use denote.Builtin.{RawPtr}
-use denote.Exit.{yes}
-use denote.RattleType.{Valss}
-use denote.RawPtr.{null_ptr}
-use denote.Signature.{plain}
-use denote.Steps.{nothing}
-use denote.Struct.Struct.{within}
-use denote.Struct.Owning.{shape, to}
-use denote.Triple.Spec.{triple_of}
-use denote.Triple.Table.{entered}
-use denote.Triple.Walked.{says, Stays, stay_dropped, walk_of, ends_at, Goes-dropped, walk_Meets}
+use Rattle.klog_c.proofs.Walks.{refl, sym, subst, List, [], ◌∷◌, ◌++◌, true, Val, vstruct, vcons, vnil, vnull}
+use Rattle.klog_c.proofs.Walks.{ent, emp, ftrue, fsep, tables, WpFn, Item, ‵, raw, ◌⊛◌, ◌$◌, ◌∵◌, !, qed, by, move}
+use Rattle.klog_c.proofs.Walks.{drop, join, split, fsplit, fjoin, fpack, feq_i, suffices, done, agg, no_more, and_then}
+use Rattle.klog_c.proofs.Walks.{lit, returns, enter, alloc_all, pass_all, free_all, look_at, get, sets, Valss, RawPtr}
+use Rattle.klog_c.proofs.Walks.{yes, null_ptr, plain, nothing, within, shape, to, says, Stays, stay_dropped, walk_of}
+use Rattle.klog_c.proofs.Walks.{ends_at, Goes-dropped, handle_tells, proved_at, both_tt}
 use Rattle.std.proofs.Common.{arith, None}
 use Rattle.std.specs.contracts.alloc.Global as Heap
-use Rattle.std.proofs.alloc.Calls.{handle_tells}
 use Rattle.klog_c.proofs.AsBox.{E}
 use Rattle.klog_c.specs.contracts.handle.Place as place
 use Rattle.klog_c.specs.contracts.handle.Place.empty as F
-use Rattle.klog_c.specs.contracts.handle.Place.empty.Key.{name as #self}
-use Rattle.klog_c.proofs.handle.Place.empty.Statement as stated
+use Rattle.klog_c.proofs.handle.Place.empty.Statement.{statement}
 use Rattle.klog_c.proofs.handle.Place.empty.Code as code
-
-both_tt : (x y : Bool) → T x → T y → T (x && (y && true))
-both_tt true true s t = tt
-both_tt true false s t = absurd t
-both_tt false y s t = absurd s
 
 abbrev stayed : Stays (F.ended).signature.params (F.ended).kept
 stayed = (stay_dropped (plain (λ _. Heap.the_row)) yes, tt)
 
-module _ {M : Type 1} {𝓤 : Ura M} (𝓛 : Logic 𝓤) (at_mem : Memory → SProp 𝓤) (run : Routine → Fun 𝓤)
-    (𝓣 : Tables 𝓤 𝓛.H) where
-  open 𝓛 use {H}
-
-  walk : (z : (walk_of 𝓛 F.ended stayed (F.clauses 𝓛 at_mem run)).Ghost)
-      → ent 𝓤 ((walk_of 𝓛 F.ended stayed (F.clauses 𝓛 at_mem run)).pre z)
-      (WpFn 𝓤 H 𝓣.C 𝓣.Λ code.function (z.0.4.0 ++ []) ((walk_of 𝓛 F.ended stayed (F.clauses 𝓛 at_mem run)).post z))
-  walk z =
-      let Post = (walk_of 𝓛 F.ended stayed (F.clauses 𝓛 at_mem run)).post z in
-      let a = z.0.3.0 in
-      let made : place.the_row.Denot = record { at = null_ptr; alloc = a; object = None } in
-      qed 𝓛 ((‵ ftrue ⊛ ‵ (fsep (Heap.the_row.own_val a z.0.4.0) ftrue)) ∷ raw (emp 𝓤) ∷ []) ∵ split ! $
-      drop ! $ fsplit ! $
-      handle_tells E.al ! a z.0.4.0 (λ hv ea fa. move ! (1 ∷ []) $ drop ! $ move ! (1 ∷ []) $ drop ! $
-      let w : Val = vstruct (vcons vnull (vcons hv vnil)) in
-      let Γ : List (Item 𝓤) = ‵ (Heap.the_row.own_val a (hv ∷ [])) ∷ [] in
-      by ! (subst (λ (us : List Val). ent 𝓤 (types.Kit.⋆ 𝓛 Γ) (WpFn 𝓤 H 𝓣.C 𝓣.Λ code.function (us ++ []) Post)) (sym ea)
-      (qed 𝓛 Γ ∵ enter ! 𝓣.C 𝓣.Λ code.function (hv ∷ []) _ $ alloc_all ! (λ ls. pass_all ! refl (fa, tt) $
-      sets ! (agg ! (and_then ! (lit ! (tt {0})) (and_then ! (get ! refl) (no_more !)))) refl
-      (both_tt true _ (tt {0}) fa.0, (record { fits = omega arith }, (fa.1, tt))) $ returns ! (look_at ! 0 refl) $
-      free_all ! refl $
-      nothing ! $ nothing ! $ move ! (2 ∷ 0 ∷ []) $ fjoin ! $ feq_i ! (List Val) (vnull ∷ []) (vnull ∷ []) refl $
-      fjoin ! $ feq_i ! (List Val) (w ∷ []) (w ∷ []) refl $ fjoin ! $
-      fpack ! (Valss (RawPtr ∷ Heap.the_row ∷ [])) (within (shape place.the_type) (to place.the_type made) (w ∷ []))
-      (vnull ∷ [], (hv ∷ [], tt)) $ fjoin ! $
-      suffices ! _ (ends_at 𝓛 F.ended stayed (F.clauses 𝓛 at_mem run) z w made (tt, tt) (tt, tt)) $ says ! refl $
-      nothing ! $ nothing ! $ fjoin ! $ join ! $ nothing ! $ join ! $ done !))))
-
-pub empty_spec : {M : Type 1} → stated.statement M
-unfolding tables_of
+pub empty_spec : {M : Type 1} → statement M
 empty_spec 𝓤 𝓛 𝓜 𝓡 wired =
-    let 𝓣 : Tables 𝓤 𝓛.H = tables_of 𝓤 𝓛.H 𝓜 (tables 𝓤 𝓛.H 𝓜 𝓡 𝓡.env) in
-    entered 𝓤 𝓛.H (triple_of 𝓛 F.signature (F.spec 𝓛 𝓜.mem 𝓡.returns)) 𝓣.C 𝓣.Λ #self code.function
-    (code.unfolded 𝓤 𝓛.H 𝓜 𝓡 wired)
-    (walk_Meets 𝓛 F.ended stayed (Goes-dropped 𝓛 0 (plain (λ _. Heap.the_row)) yes (λ κs x f. refl), tt)
-    (F.clauses 𝓛 𝓜.mem 𝓡.returns) (WpFn 𝓤 𝓛.H 𝓣.C 𝓣.Λ code.function) (WpFn-mono 𝓤 𝓛.H 𝓛.laws 𝓣 code.function)
-    (walk 𝓛 𝓜.mem 𝓡.returns 𝓣))
+    let c = F.clauses 𝓛 𝓜.mem 𝓡.returns in let 𝓣 = tables 𝓤 𝓛.H 𝓜 𝓡 𝓡.env in let e = code.function in
+    proved_at 𝓛 F.ended stayed c 𝓜 𝓡 (Goes-dropped 𝓛 0 (plain (λ _. Heap.the_row)) yes (λ κs x f. refl), tt)
+    F.Key.name e (code.unfolded 𝓤 𝓛.H 𝓜 𝓡 wired) (λ z are.
+    let Post = (walk_of 𝓛 F.ended stayed c).post z in let a = z.0.3.0 in
+    let made : place.the_row.Denot = record { at = null_ptr; alloc = a; object = None } in
+    qed 𝓛 ((‵ ftrue ⊛ ‵ (fsep (Heap.the_row.own_val a z.0.4.0) ftrue)) ∷ raw (emp 𝓤) ∷ []) ∵ split ! $
+    drop ! $ fsplit ! $
+    handle_tells E.al ! a z.0.4.0 (λ hv ea fa. move ! (1 ∷ []) $ drop ! $ move ! (1 ∷ []) $ drop ! $
+    let w : Val = vstruct (vcons vnull (vcons hv vnil)) in
+    let Γ : List (Item 𝓤) = ‵ (Heap.the_row.own_val a (hv ∷ [])) ∷ [] in
+    by ! (subst (λ (us : List Val). ent 𝓤 (types.Kit.⋆ 𝓛 Γ) (WpFn 𝓤 𝓛.H 𝓣.C 𝓣.Λ e (us ++ []) Post)) (sym ea)
+    (qed 𝓛 Γ ∵ enter ! 𝓣.C 𝓣.Λ e (hv ∷ []) _ $ alloc_all ! (λ ls. pass_all ! refl (fa, tt) $
+    sets ! (agg ! (and_then ! (lit ! (tt {0})) (and_then ! (get ! refl) (no_more !)))) refl
+    (both_tt true _ (tt {0}) fa.0, (record { fits = omega arith }, (fa.1, tt))) $ returns ! (look_at ! 0 refl) $
+    free_all ! refl $
+    nothing ! $ nothing ! $ move ! (2 ∷ 0 ∷ []) $ fjoin ! $ feq_i ! (List Val) (vnull ∷ []) (vnull ∷ []) refl $
+    fjoin ! $ feq_i ! (List Val) (w ∷ []) (w ∷ []) refl $ fjoin ! $
+    fpack ! (Valss (RawPtr ∷ Heap.the_row ∷ [])) (within (shape place.the_type) (to place.the_type made) (w ∷ []))
+    (vnull ∷ [], (hv ∷ [], tt)) $ fjoin ! $
+    suffices ! _ (ends_at 𝓛 F.ended stayed c z w made (tt, tt) (tt, tt)) $ says ! refl $
+    nothing ! $ nothing ! $ fjoin ! $ join ! $ nothing ! $ join ! $ done !)))))

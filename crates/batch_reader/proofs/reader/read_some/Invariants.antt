@@ -1,0 +1,8 @@
+use Rattle.std.proofs.Common.{◌≡◌, length}
+use Rattle.std.specs.Io.KnownBytes.{Keeps}
+use Rattle.batch_reader.proofs.reader.read_some.Given as goal
+
+abbrev pub invariant-loop : goal.invariant-loop
+invariant-loop g l =
+    Keeps (g.R.Read.remaining l.initial.reader) (g.R.Read.remaining l.reader)
+    × (length l.buffer ≡ length l.initial.buffer)

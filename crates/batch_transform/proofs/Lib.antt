@@ -1,3 +1,0 @@
-pub mod CountLaws
-pub mod PassLaws
-pub mod MadeLaws

@@ -1,7 +1,0 @@
-use Rattle.item_rows.specs.ItemRows.{rows_in}
-use Rattle.transform.specs.Transforms.{Fills}
-use Rattle.transform.proofs.EachLaws.{InFirst}
-use Rattle.batch_transform.proofs.stream.put_each.Given as goal
-
-abbrev pub invariant-loop-output : goal.invariant-loop-output
-invariant-loop-output l = InFirst l.output l.fn.outlets l.outlets (λ q. Fills (rows_in l.rows.rows q))

@@ -1,2 +1,0 @@
-pub mod Transformed
-pub mod Passes

@@ -1,0 +1,5 @@
+pub mod Numbers
+pub mod Searches
+pub mod LineTexts
+pub mod FileTexts
+pub mod NoImages

@@ -1,0 +1,44 @@
+-- The program that a user gives: an image, or a program file, and perhaps a helper table beside it.
+use Rattle.std.specs.Prelude.{ℕ, Bool, true, false, ◌==◌, if◌then◌else◌, List, [], Option, Some, None, unwrap_or}
+use Rattle.std.specs.Prelude.{Result, Ok, Err}
+use Rattle.machine_spec.specs.declared.helper.Table.{Table}
+use Rattle.program_file.specs.declared.{file.ProgramFile.ProgramFile, fault.FileFault.FileFault}
+use Rattle.program_file.specs.declared.choice.GivenProgram.{GivenProgram}
+use Rattle.program_file.specs.declared.fault.FileFault.TheVariants as fault
+use Rattle.program_file.specs.Reading.{is_program_file, read_file}
+
+-- the helper table with a number, if programs run by it
+abbrev pub table_numbered : ℕ → Option Table
+table_numbered number = if number == 1 then Some Table.One else if number == 2 then Some Table.Two else None
+
+-- two tables are the same
+abbrev pub is_same : Table → Table → Bool
+is_same Table.One Table.One = true
+is_same Table.One Table.Two = false
+is_same Table.Two Table.One = false
+is_same Table.Two Table.Two = true
+
+-- a table is the one that is named, where one is
+abbrev pub is_named : Option Table → Table → Bool
+is_named None table = true
+is_named (Some named) table = is_same named table
+
+-- the program of a file, if programs run by its table and it is the one that is named
+abbrev pub run_by : Option Table → ProgramFile → Option Table → Result GivenProgram FileFault
+run_by named file (Some table) = if is_named named table
+    then Ok (record { table = table; image = file.image; places = file.places }) else Err fault.Table
+run_by named file None = Err fault.Table
+
+-- the same of what bytes say
+abbrev pub file_program : Option Table → Result ProgramFile FileFault → Result GivenProgram FileFault
+file_program named (Ok file) = run_by named file (table_numbered file.table)
+file_program named (Err f) = Err f
+
+-- the program of an image: its table is the named one, or table 1, and nothing says where it comes from
+abbrev pub image_program : Option Table → List ℕ → GivenProgram
+image_program named image = record { table = unwrap_or named Table.One; image = image; places = [] }
+
+-- the program that bytes are, or why they are refused
+abbrev pub given_program : Option Table → List ℕ → Result GivenProgram FileFault
+given_program named bytes = if is_program_file bytes then file_program named (read_file bytes)
+    else Ok (image_program named bytes)
