@@ -1,23 +1,26 @@
 /* klog's engine as a library: load an eBPF program once, run it on record batches or on single records.
  *
- * A program is loaded from its image, as `klog asm` or `tools/image.py` makes it. A load accepts exactly the
+ * A program is loaded from its image, as `klog asm` or `tools/klogc/klogc` makes it. A load accepts exactly the
  * images that the verifier accepts, and what it accepts runs without a trap, within as many instructions as it
  * has, and reads nothing but its record and its stack. docs/library.md says what is proved of a call, and what
  * the caller owes.
  *
- * Every function but klog_free returns a number: KLOG_OK, or why it did nothing. After another number than
- * KLOG_OK each handle and each buffer is as it was.
+ * Every function but klog_version and klog_free returns a number: KLOG_OK, or why it did nothing. After another number
+ * than KLOG_OK each handle and each buffer is as it was.
  *
  * Handles. A `klog_handle` holds a program, batches, headers, an outcome, a text or nothing; one of zero bytes
  * (KLOG_NOTHING) holds nothing. Only the library reads or writes its fields, and no handle is copied: klog_share makes
  * another handle of one program. klog_free ends what a handle holds; each handle that holds something is freed once.
  *
- * Threads. The library starts none, has no lock and no global state. A handle is given to one call at a time.
- * It may go to another thread, where the threads order that (a thread's start or its join, a mutex). Handles of
- * one program, made by klog_share, serve as many threads at the same time.
+ * Threads. The library starts none, has no lock and no global state. A call that takes a const handle reads it and
+ * what it holds, and writes neither: several threads may give one handle to such calls at the same time. Any other
+ * call has its handle alone. A handle may go to another thread, where the threads order that (a thread's start or its
+ * join, a mutex).
  *
  * Memory. Handles and buffers of one call do not overlap. The memory of what a handle holds comes from malloc,
- * realloc and free. A length that no memory has (above PTRDIFF_MAX) is KLOG_LENGTH or KLOG_RANGE before other faults. */
+ * realloc and free. A length above PTRDIFF_MAX, which no memory has, is KLOG_LENGTH of a header or a record, and
+ * KLOG_RANGE of other bytes: after KLOG_NULL and the KLOG_KIND of a handle that the library did not fill, and before
+ * all else. Of an image it is 101. */
 #ifndef KLOG_ENGINE_H
 #define KLOG_ENGINE_H
 
@@ -41,6 +44,7 @@ enum {
 	KLOG_NULL = 6,   /* a null pointer, or one handle given twice */
 	KLOG_FULL = 7,   /* the offsets of records are used up */
 	KLOG_TEXT = 8,   /* a header's key is not UTF-8 */
+	KLOG_LIMIT = 9,  /* the rows take more bytes than the caller's limit */
 	KLOG_IMAGE = 100,
 	KLOG_VERIFIER = 200,
 	KLOG_BATCH = 300
@@ -52,6 +56,10 @@ enum { KLOG_NULL_KEY = 1, KLOG_NULL_VALUE = 2 };
 /* The helper tables of programs: what a program calls by number is a helper of its table. Table 1 has the helpers 1
  * to 9, table 2 those and 10 to 12, which read headers. */
 enum { KLOG_TABLE_ONE = 1, KLOG_TABLE_TWO = 2 };
+
+/* The version of this header: 1,000 times the major number and the minor one, so 0.2. Later versions with the same
+ * major number keep what is here. */
+enum { KLOG_VERSION = 2 };
 
 /* The most emissions of one record, and the most headers. */
 enum { KLOG_EMISSIONS = 16, KLOG_HEADERS = 16 };
@@ -110,7 +118,7 @@ typedef struct klog_record {
 	uint64_t timestamp;   /* in milliseconds, below 2^62 */
 	size_t partition;     /* the input partition, below 64 */
 	size_t outputs;       /* how many output partitions there are, 1 to 64 */
-	klog_handle *headers; /* its headers, by klog_add_header; NULL or a handle of nothing: none */
+	const klog_handle *headers; /* its headers, by klog_add_header; NULL or a handle of nothing: none */
 } klog_record;
 
 /* What is emitted to an output partition. */
@@ -146,7 +154,7 @@ uint32_t klog_fault_text(uint32_t fault, size_t place, char *buffer, size_t room
 /* Gives another owner of a program to `other`, which holds nothing or a program; that one is freed. The program
  * ends with its last owner. KLOG_KIND: `program` holds no program, or `other` something else. KLOG_NULL: one is
  * null, or both are one handle. KLOG_MEMORY. */
-uint32_t klog_share(klog_handle *program, klog_handle *other);
+uint32_t klog_share(const klog_handle *program, klog_handle *other);
 
 /* Runs a program on all records of the record batches (Kafka's format, magic 2, not compressed) that the `length`
  * bytes are, one after the other, into `batches`, which holds nothing or batches; those are freed. Each output partition
@@ -158,25 +166,37 @@ uint32_t klog_share(klog_handle *program, klog_handle *other);
  * call with `stop->byte` as the length transforms these. KLOG_FULL: after those, 10,000 records would go beyond the
  * offset 2^62. Else `*stop` means nothing. KLOG_KIND: `program` holds no program, or `batches` something else.
  * KLOG_RANGE: a number of the source is out of its range. KLOG_NULL: a pointer is null (`bytes` may be, with the length
- * 0), or one handle is given twice. KLOG_MEMORY. The call copies the bytes once. */
-uint32_t klog_transform(klog_handle *program, const klog_source *source, const uint8_t *bytes, size_t length,
+ * 0), or one handle is given twice. KLOG_MEMORY. The call copies the bytes once.
+ *
+ * The rows may take far more memory than the bytes: a record of 7 bytes becomes up to KLOG_EMISSIONS rows of some 1,040
+ * bytes, 512 of key and 512 of value from the program's stack, so 818,050 bytes become 1,656 MB. Where the program or the
+ * bytes come from somebody else, call klog_transform_within. */
+uint32_t klog_transform(const klog_handle *program, const klog_source *source, const uint8_t *bytes, size_t length,
 			klog_handle *batches, klog_stop *stop);
 
+/* The same, where the batches of all output partitions take at most `limit` bytes together. KLOG_LIMIT: they would take
+ * more. Then `*stop` says after which batches this showed, and nothing is kept, as after each fault. Output batches are
+ * counted after each given batch, as far as they are full, and all of them at the end: so a call holds at most `limit`
+ * bytes of rows and what one given batch adds, which is 400 MB at worst. The first fault is returned: a batch that is
+ * refused comes after a limit that the batches before it passed. Without a limit it is UINT64_MAX. */
+uint32_t klog_transform_within(const klog_handle *program, const klog_source *source, const uint8_t *bytes,
+			       size_t length, uint64_t limit, klog_handle *batches, klog_stop *stop);
+
 /* Tells what a transform read. KLOG_KIND: `batches` holds no batches. KLOG_NULL: a pointer is null. */
-uint32_t klog_counts_of(klog_handle *batches, klog_counts *counts);
+uint32_t klog_counts_of(const klog_handle *batches, klog_counts *counts);
 
 /* Tells how many records a code rejected, by its number from 0, below `codes`; the codes rise. KLOG_KIND: `batches`
  * holds no batches. KLOG_RANGE: there is no such code. KLOG_NULL: a pointer is null. */
-uint32_t klog_reject_at(klog_handle *batches, size_t number, klog_reject *reject);
+uint32_t klog_reject_at(const klog_handle *batches, size_t number, klog_reject *reject);
 
 /* Tells of an output partition, by its number from 0. KLOG_KIND: `batches` holds no batches. KLOG_RANGE: there is no
  * such output partition. KLOG_NULL: a pointer is null. */
-uint32_t klog_output_at(klog_handle *batches, size_t number, klog_output *output);
+uint32_t klog_output_at(const klog_handle *batches, size_t number, klog_output *output);
 
 /* Copies the batches of an output partition to the front of a buffer of `room` bytes, of which the rest is as it was.
  * KLOG_KIND, KLOG_RANGE: as above. KLOG_ROOM: the buffer is too short. KLOG_NULL: `batches` is null, or `buffer` is
  * null and `room` is not 0. */
-uint32_t klog_output_batches(klog_handle *batches, size_t number, uint8_t *buffer, size_t room);
+uint32_t klog_output_batches(const klog_handle *batches, size_t number, uint8_t *buffer, size_t room);
 
 /* Adds a header at the end of `headers`, which holds nothing or headers. Its key is UTF-8 of 0 to 255 bytes, its value
  * 0 to 4,096 bytes, or null with the length 0; both are copied. What `headers` holds serves any number of runs, which
@@ -190,31 +210,31 @@ uint32_t klog_add_header(klog_handle *headers, const uint8_t *key, size_t key_le
  * returned: KLOG_NULL, a pointer is null, one handle is given twice, or a null key or value has a length; KLOG_KIND,
  * `program` holds no program, or the record's `headers` hold something else; KLOG_RANGE, a number of the record is out
  * of its range; KLOG_LENGTH, the key or the value is too long; KLOG_KIND, `outcome` holds something else. KLOG_MEMORY. */
-uint32_t klog_run(klog_handle *program, const klog_record *record, klog_handle *outcome);
+uint32_t klog_run(const klog_handle *program, const klog_record *record, klog_handle *outcome);
 
 /* Tells the reject code, 0 where the record is kept, and how many emissions there are, 0 to KLOG_EMISSIONS; a
  * rejected record has none. KLOG_KIND: `outcome` holds no outcome. KLOG_NULL: a pointer is null. */
-uint32_t klog_outcome(klog_handle *outcome, uint64_t *code, size_t *count);
+uint32_t klog_outcome(const klog_handle *outcome, uint64_t *code, size_t *count);
 
 /* Tells of an emission, by its number from 0 in the order of the program's calls. KLOG_KIND: `outcome` holds no
  * outcome. KLOG_RANGE: it has no such emission. KLOG_NULL: a pointer is null. */
-uint32_t klog_emission_at(klog_handle *outcome, size_t number, klog_emission *emission);
+uint32_t klog_emission_at(const klog_handle *outcome, size_t number, klog_emission *emission);
 
 /* Copies the key, or the value, of an emission to the front of a buffer of `room` bytes, of which the rest is as
  * it was. Of null there are no bytes. KLOG_KIND, KLOG_RANGE: as above. KLOG_ROOM: the buffer is too short.
  * KLOG_NULL: `outcome` is null, or `buffer` is null and `room` is not 0. */
-uint32_t klog_emission_key(klog_handle *outcome, size_t number, uint8_t *buffer, size_t room);
-uint32_t klog_emission_value(klog_handle *outcome, size_t number, uint8_t *buffer, size_t room);
+uint32_t klog_emission_key(const klog_handle *outcome, size_t number, uint8_t *buffer, size_t room);
+uint32_t klog_emission_value(const klog_handle *outcome, size_t number, uint8_t *buffer, size_t room);
 
 /* Tells of a header of an emission, by both numbers from 0, the header's below `header_count`. KLOG_KIND: `outcome` holds
  * no outcome. KLOG_RANGE: it has no such emission, or that one no such header. KLOG_NULL: a pointer is null. */
-uint32_t klog_emission_header(klog_handle *outcome, size_t number, size_t at, klog_header *header);
+uint32_t klog_emission_header(const klog_handle *outcome, size_t number, size_t at, klog_header *header);
 
 /* Copies the key, or the value, of a header of an emission to the front of a buffer of `room` bytes, of which the rest is
  * as it was. Of null there are no bytes. KLOG_KIND, KLOG_RANGE: as above. KLOG_ROOM: the buffer is too short.
  * KLOG_NULL: `outcome` is null, or `buffer` is null and `room` is not 0. */
-uint32_t klog_emission_header_key(klog_handle *outcome, size_t number, size_t at, uint8_t *buffer, size_t room);
-uint32_t klog_emission_header_value(klog_handle *outcome, size_t number, size_t at, uint8_t *buffer, size_t room);
+uint32_t klog_emission_header_key(const klog_handle *outcome, size_t number, size_t at, uint8_t *buffer, size_t room);
+uint32_t klog_emission_header_value(const klog_handle *outcome, size_t number, size_t at, uint8_t *buffer, size_t room);
 
 /* Explains why the verifier accepts or refuses an image by a helper table, as `klog explain` prints it, into `text`,
  * which holds nothing or a text; that one is freed. Where `is_refused_alone` is not 0, only the instructions that
@@ -225,7 +245,10 @@ uint32_t klog_explain(const uint8_t *image, size_t length, uint32_t table, int i
 /* Copies a text to the front of a buffer of `room` bytes, with no zero byte at its end, and its length to `*length`.
  * KLOG_ROOM: the buffer is too short; `*length` is what it needs. KLOG_KIND: `text` holds no text. KLOG_NULL: `text`
  * or `length` is null, or `buffer` is null and `room` is not 0. */
-uint32_t klog_text(klog_handle *text, char *buffer, size_t room, size_t *length);
+uint32_t klog_text(const klog_handle *text, char *buffer, size_t room, size_t *length);
+
+/* The version of the library, in the form of KLOG_VERSION. */
+uint32_t klog_version(void);
 
 /* Frees what a handle holds; it holds nothing then. A null pointer and a handle of nothing are left alone. */
 void klog_free(klog_handle *handle);

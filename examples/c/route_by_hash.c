@@ -9,7 +9,6 @@ u64 transform(const u8 *value, u64 value_length, const u8 *key, u64 key_length, 
 {
 	u64 hash = 0xcbf29ce484222325;
 
-	UNROLLED
 	for (u64 i = 0; i < HASHED; i++)
 		if (i < key_length)
 			hash = (hash ^ key[i]) * 0x100000001b3;

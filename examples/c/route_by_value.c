@@ -9,7 +9,6 @@ u64 transform(const u8 *value, u64 value_length, const u8 *key, u64 key_length, 
 {
 	u32 hash = 0x811c9dc5;
 
-	UNROLLED
 	for (u64 i = 0; i < HASHED; i++)
 		if (i < value_length)
 			hash = (hash ^ value[i]) * 0x01000193;

@@ -11,6 +11,7 @@ RELOCATABLE, BPF = 1, 247
 SYMBOL_TABLE, RELOCATIONS_WITH_ADDENDS, NO_BYTES, RELOCATIONS = 2, 4, 8, 9
 WRITABLE, ALLOCATED, EXECUTABLE = 1, 2, 4
 NO_TYPE, DATA_OBJECT, FUNCTION, SECTION_NAME = 0, 1, 2, 3
+UNDEFINED, COMMON = 0, 0xFFF2
 
 Section = collections.namedtuple("Section", "number name kind flags data link info entry_size")
 Symbol = collections.namedtuple("Symbol", "name kind section value size")

@@ -1,5 +1,5 @@
 #!/usr/bin/env python3
-"""Tests tools/graph.py on images of known blocks, edges and verdicts, and on random ones.
+"""Tests `klogc graph` on images of known blocks, edges and verdicts, and on random ones.
 
     tools/dev/graph_test.py [--klog KLOG]
 
@@ -17,7 +17,7 @@ import tempfile
 
 from second_machine import LIMIT, Refused, decode, edges, entry, joined, shape_fault, state_fault
 from compare_texts import assembled, disassembled
-from image_test import assembled as laid_out, some_program
+from random_images import assembled as laid_out, some_program
 
 TOOLS = os.path.dirname(os.path.dirname(os.path.abspath(__file__)))
 
@@ -92,7 +92,7 @@ class Drawing:
         """The graph of an image: its boxes by their names, its edges, and the text."""
         with open(self.path, "wb") as it:
             it.write(image)
-        done = subprocess.run([sys.executable, os.path.join(TOOLS, "graph.py"), self.path, "--klog", self.klog], capture_output=True, text=True, check=False)
+        done = subprocess.run([sys.executable, os.path.join(TOOLS, "klogc", "klogc"), "graph", self.path, "--klog", self.klog], capture_output=True, text=True, check=False)
         check(done.returncode == 0, done.stderr)
         if self.dot:
             drawn = subprocess.run([self.dot, "-Tplain"], input=done.stdout, capture_output=True, text=True, check=False)
@@ -103,7 +103,7 @@ class Drawing:
     def refusal(self, image):
         with open(self.path, "wb") as it:
             it.write(image)
-        done = subprocess.run([sys.executable, os.path.join(TOOLS, "graph.py"), self.path, "--klog", self.klog], capture_output=True, text=True, check=False)
+        done = subprocess.run([sys.executable, os.path.join(TOOLS, "klogc", "klogc"), "graph", self.path, "--klog", self.klog], capture_output=True, text=True, check=False)
         return done.returncode, done.stdout, done.stderr
 
 
@@ -129,7 +129,7 @@ def test_known(drawing):
     check([name for name, box in boxes.items() if "gray90" in box] == ["b2", "b3"], boxes)
     check('b0 -> b2 [label="r0 = 4", color=gray' in text, text)
     for image, fault in ((b"\x7fELF", "I1 Size\n"), (bytes(8), "I2 Opcode slot 0\n")):
-        check(drawing.refusal(image) == (1, "", fault), drawing.refusal(image))
+        check(drawing.refusal(image) == (1, "", f"image.bin: {fault}"), drawing.refusal(image))
 
 
 def test_random(drawing, rng, count):
@@ -154,7 +154,7 @@ def test_random(drawing, rng, count):
 def main():
     if sys.argv[1:2] == ["--stand-in"]:
         stand_in(sys.argv[2:])
-    words = argparse.ArgumentParser(description="Tests tools/graph.py.")
+    words = argparse.ArgumentParser(description="Tests `klogc graph`.")
     words.add_argument("--klog")
     given = words.parse_args()
     with tempfile.TemporaryDirectory() as folder:

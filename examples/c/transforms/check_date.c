@@ -12,7 +12,6 @@ u64 transform(const u8 *value, u64 value_length, const u8 *key, u64 key_length, 
 
 	if (value_length < 10 || value[4] != '-' || value[7] != '-')
 		return 1;
-	UNROLLED
 	for (int i = 0; i < 10; i++)
 		if (i != 4 && i != 7 && (value[i] < '0' || value[i] > '9'))
 			return 1;

@@ -10,7 +10,6 @@ u64 transform(const u8 *value, u64 value_length, const u8 *key, u64 key_length, 
 {
 	u8 trace[8] = "trace", name[8];
 
-	UNROLLED
 	for (u64 at = 0; at < 16; at++)
 		if (header_key(name, at, 8) == 6 && !memcmp(name, trace, 5))
 			return emit_record(0);

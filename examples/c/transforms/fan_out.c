@@ -9,7 +9,6 @@ u64 transform(const u8 *value, u64 value_length, const u8 *key, u64 key_length, 
 {
 	if (value_length < 1)
 		return 1;
-	UNROLLED
 	for (int output = 0; output < 4; output++)
 		if (value[0] >> output & 1)
 			emit_record(output);

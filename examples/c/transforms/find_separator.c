@@ -9,7 +9,6 @@ u64 transform(const u8 *value, u64 value_length, const u8 *key, u64 key_length, 
 {
 	u64 at;
 
-	UNROLLED
 	for (at = 0; at < 64; at++) {
 		if (at >= value_length)
 			return 1;

@@ -15,7 +15,6 @@ u64 transform(const u8 *value, u64 value_length, const u8 *key, u64 key_length, 
 
 	if (key_length != 8)
 		return 1;
-	UNROLLED
 	for (int i = 0; i < 8; i++) {
 		text[2 * i] = digit(key[i] >> 4);
 		text[2 * i + 1] = digit(key[i] & 15);

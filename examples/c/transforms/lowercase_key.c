@@ -10,7 +10,6 @@ u64 transform(const u8 *value, u64 value_length, const u8 *key, u64 key_length, 
 
 	if (key_length != sizeof lower)
 		return 1;
-	UNROLLED
 	for (int i = 0; i < sizeof lower; i++)
 		lower[i] = key[i] >= 'A' && key[i] <= 'Z' ? key[i] + 32 : key[i];
 	return emit(0, lower, sizeof lower, value, value_length);

@@ -13,7 +13,6 @@ u64 transform(const u8 *value, u64 value_length, const u8 *key, u64 key_length, 
 
 	if (value_length < 1 || value_length > 6)
 		return 1;
-	UNROLLED
 	for (int i = 0; i < 6; i++) {
 		if (i >= value_length)
 			break;

@@ -10,7 +10,6 @@ u64 transform(const u8 *value, u64 value_length, const u8 *key, u64 key_length, 
 
 	if (value_length != sizeof row)
 		return 1;
-	UNROLLED
 	for (int i = 0; i < sizeof row; i++)
 		row[i] = i >= 8 && i < 16 ? 'x' : value[i];
 	return emit_value(0, row, sizeof row);

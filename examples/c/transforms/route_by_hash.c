@@ -8,7 +8,6 @@ u64 transform(const u8 *value, u64 value_length, const u8 *key, u64 key_length, 
 {
 	unsigned hash = 0x811c9dc5;
 
-	UNROLLED
 	for (int i = 0; i < 8; i++)
 		if (i < key_length)
 			hash = (hash ^ key[i]) * 0x01000193;

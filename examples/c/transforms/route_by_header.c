@@ -12,7 +12,6 @@ u64 transform(const u8 *value, u64 value_length, const u8 *key, u64 key_length, 
 {
 	u8 region[8] = "region", name[8], text[4];
 
-	UNROLLED
 	for (u64 at = 0; at < 16; at++) {
 		if (header_key(name, at, 8) != 7 || memcmp(name, region, 6))
 			continue;

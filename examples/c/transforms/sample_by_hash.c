@@ -8,7 +8,6 @@ u64 transform(const u8 *value, u64 value_length, const u8 *key, u64 key_length, 
 {
 	u64 hash = 5381;
 
-	UNROLLED
 	for (u64 i = 0; i < 16; i++)
 		if (i < key_length)
 			hash = hash * 33 + key[i];

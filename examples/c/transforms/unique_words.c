@@ -14,11 +14,9 @@ u64 transform(const u8 *value, u64 value_length, const u8 *key, u64 key_length, 
 
 	if (value_length != 16)
 		return 1;
-	UNROLLED
 	for (u64 i = 0; i < 4; i++) {
 		int seen = 0;
 
-		UNROLLED
 		for (u64 j = 0; j < i; j++)
 			seen |= word[j] == word[i];
 		if (!seen)

@@ -14,7 +14,6 @@ u64 transform(const u8 *value, u64 value_length, const u8 *key, u64 key_length, 
 
 	if (value_length != 32)
 		return 1;
-	UNROLLED
 	for (int i = 0; i < 32; i++) {
 		u8 c = value[i];
 

@@ -12,7 +12,6 @@ u64 transform(const u8 *value, u64 value_length, const u8 *key, u64 key_length, 
 
 	if (value_length != 17)
 		return 1;
-	UNROLLED
 	for (int i = 0; i < 16; i++)
 		sum ^= value[i];
 	if (sum != value[16])

@@ -12,7 +12,6 @@ u64 transform(const u8 *value, u64 value_length, const u8 *key, u64 key_length, 
 
 	if (value_length > 100)
 		return 1;
-	UNROLLED
 	for (u64 i = 0; i < 100; i++)
 		if (i < value_length)
 			text[3 + i] = value[i];

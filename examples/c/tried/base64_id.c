@@ -14,7 +14,6 @@ u64 transform(const u8 *value, u64 value_length, const u8 *key, u64 key_length, 
 
 	if (key_length != 12)
 		return 1;
-	UNROLLED
 	for (int i = 0; i < 4; i++) {
 		u32 bits = key[3 * i] << 16 | key[3 * i + 1] << 8 | key[3 * i + 2];
 

@@ -12,7 +12,6 @@ u64 transform(const u8 *value, u64 value_length, const u8 *key, u64 key_length, 
 
 	if (value_length != 16)
 		return 1;
-	UNROLLED
 	for (int i = 0; i < 16; i++) {
 		u64 digit = value[i] - '0';
 

@@ -9,7 +9,6 @@
 
 u64 transform(const u8 *value, u64 value_length, const u8 *key, u64 key_length, u64 nulls)
 {
-	UNROLLED
 	for (u64 i = 0; i < 60; i++)
 		if (i + 5 <= value_length && memcmp(value + i, "ERROR", 5) == 0)
 			return emit_record(1);

@@ -13,12 +13,10 @@ u64 transform(const u8 *value, u64 value_length, const u8 *key, u64 key_length, 
 
 	if (key_length > 16 || value_length > 48)
 		return 1;
-	UNROLLED
 	for (u64 i = 0; i < 16; i++)
 		if (i < key_length)
 			line[i] = key[i];
 	line[key_length] = '=';
-	UNROLLED
 	for (u64 i = 0; i < 48; i++)
 		if (i < value_length)
 			line[key_length + 1 + i] = value[i];

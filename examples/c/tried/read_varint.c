@@ -11,7 +11,6 @@ u64 transform(const u8 *value, u64 value_length, const u8 *key, u64 key_length, 
 {
 	u64 number = 0;
 
-	UNROLLED
 	for (int i = 0; i < 5; i++) {
 		if (i >= value_length)
 			return 1;

@@ -10,7 +10,6 @@ u64 transform(const u8 *value, u64 value_length, const u8 *key, u64 key_length, 
 {
 	u64 at = 0;
 
-	UNROLLED
 	for (int i = 0; i < 8; i++) {
 		u64 length;
 

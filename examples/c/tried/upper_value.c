@@ -11,7 +11,6 @@ u64 transform(const u8 *value, u64 value_length, const u8 *key, u64 key_length, 
 
 	if (value_length > sizeof upper)
 		return 1;
-	UNROLLED
 	for (int i = 0; i < sizeof upper; i++)
 		if (i < value_length)
 			upper[i] = value[i] >= 'a' && value[i] <= 'z' ? value[i] - 32 : value[i];

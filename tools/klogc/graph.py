@@ -1,27 +1,17 @@
-#!/usr/bin/env python3
-"""Draws what the verifier knows of a program, as Graphviz text.
-
-    tools/graph.py IMAGE [--table 2] [--klog KLOG] > graph.dot
-    dot -Tsvg graph.dot -o graph.svg
+"""Draws what the verifier knows of a program, as Graphviz text: `klogc graph IMAGE > graph.dot; dot -Tsvg graph.dot -o graph.svg`.
 
 Each block of instructions that run one after the other is a box: what is known at its head, then the instructions. An edge has
 the test by which it is taken. The refused instruction is red, with what the fault is about below it. Blocks that nothing reaches are
 grey; those that the verifier did not come to, since it refused an instruction before them, have a dashed border.
 
-It runs `klog explain IMAGE`, by helper table 1 or the one that is named, and `klog dis IMAGE`, by KLOG, `klog` on the path,
-crates/klog/out/klog, or out/klog. Where the image is no program, it prints the fault and ends with status 1.
-"""
-import argparse
+What is known is what `klog explain` prints."""
 import collections
 import html
-import os
 import re
-import shutil
-import subprocess
-import sys
 import textwrap
 
-TOP = os.path.dirname(os.path.dirname(os.path.abspath(__file__)))
+from .klog import Klog
+from .program import Refused
 
 # An instruction: its number, its slot, its text, and the lines of what is known before it, or none where nobody looked.
 Instruction = collections.namedtuple("Instruction", "number slot text known")
@@ -35,30 +25,6 @@ WIDTH = 60
 
 
 # ---- what klog prints
-
-class NoProgram(Exception):
-    """What klog prints where it has nothing to explain."""
-
-
-def built_klog():
-    """The proved program where it was built, else that of quick_build.sh, or None."""
-    places = (os.path.join(TOP, "crates", "klog", "out", "klog"), os.path.join(TOP, "out", "klog"))
-    return next(filter(os.path.exists, places), None)
-
-
-def program(given):
-    found = given or shutil.which("klog") or built_klog()
-    if found is None:
-        raise NoProgram("no klog: give --klog, or have it on the path")
-    return found
-
-
-def call(klog, *words):
-    try:
-        return subprocess.run([klog, *words], capture_output=True, text=True, check=False)
-    except OSError as fault:
-        raise NoProgram(f"{klog}: {fault.strerror}") from None
-
 
 def states(listing):
     """The lines of what is known before each instruction that `explain` lists, by its number."""
@@ -85,12 +51,11 @@ def verdict(printed):
     return None
 
 
-def read_program(klog, image, table):
+def read_program(klog: Klog, image, table):
     """The instructions of an image, and why it is refused by a helper table, if it is."""
-    words = ["2"] if table == 2 else []
-    text, explained = call(klog, "dis", image), call(klog, "explain", image, *words)
+    text, explained = klog.call("dis", image), klog.call("explain", image, *([str(table)] if table > 1 else []))
     if text.returncode or explained.returncode and not verdict(explained.stderr):
-        raise NoProgram((text.stderr or explained.stderr).strip() or f"{klog} ended with status {explained.returncode}")
+        raise Refused((text.stderr or explained.stderr).strip() or f"klog ended with status {explained.returncode}")
     known, listed, slot = states(explained.stdout), [], 0
     for number, line in enumerate(text.stdout.splitlines()):
         listed.append(Instruction(number, slot, line, known.get(number)))
@@ -184,6 +149,7 @@ def box(number, block, refused):
 
 
 def graph(listed, refused):
+    """The text of an image's instructions."""
     blocks = blocks_of(listed)
     lines = ["digraph program {", '\tnode [shape=box, fontname="monospace", fontsize=10];', '\tedge [fontname="monospace", fontsize=10];']
     lines += [box(k, block, refused) for k, block in enumerate(blocks)]
@@ -192,19 +158,3 @@ def graph(listed, refused):
         color = ", color=gray, fontcolor=gray" if is_unreached(blocks[edge.source]) or is_unreached(blocks[edge.target]) else ""
         lines.append(f'\tb{edge.source} -> b{edge.target} [label="{label}"{color}];')
     return "\n".join([*lines, "}", ""])
-
-
-def main():
-    words = argparse.ArgumentParser(description="Draws what the verifier knows of a program, as Graphviz text.")
-    words.add_argument("image", metavar="IMAGE")
-    words.add_argument("--table", type=int, choices=[1, 2], default=1, help="the program's helper table")
-    words.add_argument("--klog", help="the program, if it is neither on the path nor in crates/klog/out")
-    given = words.parse_args()
-    try:
-        print(graph(*read_program(program(given.klog), given.image, given.table)), end="")
-    except NoProgram as fault:
-        sys.exit(str(fault))
-
-
-if __name__ == "__main__":
-    main()

@@ -1,0 +1,210 @@
+"""Lowers calls of helpers: the bytes and the room that they are given."""
+from typing import NamedTuple
+
+from second_machine import HELPERS
+
+from .code import BASE, FRAME, LENGTH, OUTSIDE, ROOM, Bound, Call, Goto, Move, Point, PointAt, Test, Variable
+from .memory import Memory, bytes_text, span
+from .program import STACK
+from .state import State
+from .values import LENGTH_TERMS, added, number, signed, unsigned
+from .writer import Again, Given, region_text
+
+LOADS = {1: "value", 2: "key"}
+
+
+class Bytes(NamedTuple):
+    """An address and a length that a helper is given, in these registers."""
+    registers: tuple[int, int]
+    address: Given
+    length: Given
+
+    def is_whole(self):
+        """Whether it is the key or the value from its first byte to its last."""
+        v, n = self.address.value, self.length.value
+        return v.region in LENGTH and v.is_const() and v.lo == 0 and n.terms == LENGTH_TERMS[v.region] and n.c == 0
+
+
+class Copied(NamedTuple):
+    """Where a part of the record was copied to on the stack, and how many bytes it may have."""
+    at: int
+    most: int
+
+
+class Calls(Memory):
+    def call(self, s: State, i):
+        helper = i[1]
+        if helper not in HELPERS:
+            self.fail(f"helper {helper} is called, which klog does not have")
+        numbers, pairs, rooms, most = HELPERS[helper]
+        given = {r: self.operand(s, ("reg", r)) for r in [*numbers, *(r for pair in pairs + rooms for r in pair)]}
+        for r in [*numbers, *(n for _, n in pairs + rooms)]:
+            self.number(given[r].value)
+        is_empty = rooms and unsigned(given[3].value)[1] == 0
+        end = self.empty_room(helper, given) if rooms and given[3].value.lo <= 0 else None
+        if not is_empty:
+            self.write_call(s, helper, given)
+        if end:
+            self.emit(Goto(end))
+            self.start(end)
+        self.clobber(s)
+        self.set(s, 0, number(0, most))
+
+    def empty_room(self, helper, given):
+        """Nothing is copied to room of no bytes: the call is left out then, and goes on at the label that is given back."""
+        n, length = given[3]
+        some, end = self.label(), self.label()
+        if length != 0:
+            self.emit(Test("ne", 64, length, 0, some, False))
+        place = given.get(2)
+        if helper in LOADS and place.written != 0:
+            # A place after the end is no part, even of no bytes.
+            self.emit(Move(self.name(0), 1, 64))
+            whole = LENGTH[LOADS[helper]]
+            test = ("lt", 64, whole, place.written) if not isinstance(place.written, Variable) else ("gt", 64, place.written, whole)
+            self.emit(Test(*test, end, False))
+        self.emit(Move(self.name(0), 0, 64))
+        self.emit(Goto(end))
+        self.start(some)
+        given[3] = Given(number(1, unsigned(n)[1], None, n.terms, n.c), length)
+        return end
+
+    def write_call(self, s: State, helper, given):
+        numbers, pairs, rooms, _ = HELPERS[helper]
+        named = [Bytes(pair, given[pair[0]], given[pair[1]]) for pair in pairs]
+        copies = {}
+        for part in named:
+            if self.must_be_copied(s, part):
+                copies[part.registers] = self.copied(s, part, len(copies))
+        arguments = []
+        for r in numbers:
+            arguments.append(self.argument(r))
+            self.emit(Move(arguments[-1], given[r].written, 64))
+        for part in named:
+            arguments += self.named(s, part, copies.get(part.registers))
+        for pair in rooms:
+            arguments += self.room(s, Bytes(pair, given[pair[0]], given[pair[1]]))
+        self.emit(Call(helper, tuple(arguments), self.name(0)))
+        for a, n in rooms:
+            v, count = given[a].value, given[n].value
+            lo, hi = span(v, 0, count.hi)
+            s.forget(lo, hi)
+            s.mark(lo, hi, None, v.is_const() and count.is_const())
+
+    # ---- parts of the record
+
+    @staticmethod
+    def must_be_copied(s: State, part: Bytes):
+        """Whether it is a part of the record that is neither all of it nor at a known place with certain length."""
+        v, n = part.address.value, part.length.value
+        if v.region not in LENGTH or part.is_whole() or v.is_const() and n.is_const():
+            return False
+        lo, hi = span(v, 0, unsigned(n)[1])
+        return not (lo >= 0 and hi <= s.least[v.region])
+
+    def copied(self, s: State, part: Bytes, made):
+        """Copies a part of the record to the stack, from where it is emitted."""
+        v, n = part.address.value, part.length.value
+        if self.learned.rooms < made + 1:
+            self.learned.rooms = made + 1
+            raise Again
+        end = added(v.in_region(None), n)
+        certain = s.is_inside(end, 0, v.region) or self.is_end(s, v, n)
+        if not certain:
+            self.may_fault(f"a part of the {v.region} is emitted that may end outside: test first that its end is at most {v.region}_length")
+        if self.room_size < 8:
+            self.fail("a part of the record is emitted for which the stack has no room: give the function fewer or smaller variables")
+        to = self.room_at + made * self.room_size
+        done = self.label() if n.lo <= 0 else None
+        if done:
+            self.emit(Test("eq", 64, part.length.written, 0, done, False))
+        self.copy_record(part.address, 0, part.length, to, certain)
+        if done:
+            self.emit(Goto(done))
+            self.start(done)
+        return Copied(to, min(self.room_size, unsigned(n)[1]))
+
+    @staticmethod
+    def is_end(s: State, v, n):
+        """Whether a part at a known place, or of a known length, is known to be inside by a fact of the other number."""
+        if v.is_const():
+            return s.is_inside(n, v.lo, v.region)
+        return n.is_const() and s.is_inside(v.in_region(None), n.lo, v.region)
+
+    # ---- arguments
+
+    def named(self, s: State, part: Bytes, copied):
+        """The arguments of bytes that a helper reads."""
+        region = part.address.value.region
+        to, count = (self.argument(r) for r in part.registers)
+        self.emit(Move(count, part.length.written, 64))
+        if copied:
+            self.emit(Bound(count, 0, copied.most, ROOM))
+            self.emit(PointAt(to, FRAME, copied.at - STACK))
+        elif part.is_whole():
+            self.emit(PointAt(to, BASE[region], 0))
+        elif region in LENGTH:
+            self.record_bytes(s, part, to, count)
+        elif region == "stack":
+            lo, hi = span(part.address.value, 0, unsigned(part.length.value)[1])
+            self.touch(max(lo, 0), min(hi, self.used))
+            self.stack_bytes(s, part, (to, count), self.used, -STACK)
+        elif isinstance(region, tuple) and region[0] == "constants":
+            self.constant_bytes(s, part, (to, count))
+        else:
+            self.fail("a helper is given a number, or an address that may be of two kinds, as the address of bytes")
+        return [to, count]
+
+    def record_bytes(self, s: State, part: Bytes, to, count):
+        """Bytes of the record that are certainly there."""
+        v, (least, most) = part.address.value, unsigned(part.length.value)
+        lo, hi = span(v, 0, most)
+        if lo < 0:
+            self.never(f"bytes before the {v.region}'s first are emitted")
+        self.guard(s, v.region, lo, hi)
+        self.emit(Bound(count, least, most, OUTSIDE))
+        if v.is_const():
+            self.emit(PointAt(to, BASE[v.region], lo))
+            return
+        x, add, low, high = self.bounded(s, part.address, 0, 0, s.least[v.region] - most)
+        self.emit(Point(to, BASE[v.region], x, low, high, add))
+
+    def constant_bytes(self, s: State, part: Bytes, arguments):
+        v = part.address.value
+        section = v.region[1]
+        size = len(self.program.obj.section(section).data)
+        low, high = signed(v)
+        _, last = self.constant_range(section, low, high + unsigned(part.length.value)[1], size)
+        self.stack_bytes(s, part, arguments, last, self.constants_at[section] - STACK)
+
+    def stack_bytes(self, s: State, part: Bytes, arguments, top, adds):
+        """Bytes of the stack before its byte `top`, of places that begin `adds` after its end."""
+        (to, count), v, (least, most) = arguments, part.address.value, unsigned(part.length.value)
+        low, high = signed(v)
+        first = max(low, 0)
+        if high < 0 or first + least > top:
+            self.never(f"{bytes_text(low, low + max(least, 1))} a variable are passed on, which are outside it")
+        certain = min(most, top - first)
+        if low >= 0 and top < high + most <= STACK:
+            self.may_reject(OUTSIDE)
+        elif low < 0 or high + most > top:
+            self.may_fault(f"a length of up to {most} is passed on with a variable of at most {certain} bytes: test the length first")
+        self.emit(Bound(count, least, certain, OUTSIDE))
+        if v.is_const():
+            self.emit(PointAt(to, FRAME, adds + v.lo))
+            return
+        x, add, lo, hi = self.bounded(s, part.address, 0, 0, top - certain)
+        self.emit(Point(to, FRAME, x, lo, hi, adds + add))
+
+    def room(self, s: State, part: Bytes):
+        """The arguments of room that a helper writes."""
+        v = part.address.value
+        if v.region != "stack":
+            self.fail(f"a helper writes to {region_text(v.region)}: give it a variable of the function" if v.region else "a helper writes to a number")
+        to, count = (self.argument(r) for r in part.registers)
+        self.emit(Move(count, part.length.written, 64))
+        lo, hi = span(v, 0, unsigned(part.length.value)[1])
+        self.touch(max(lo, 0), min(hi, self.used))
+        least = Given(number(max(1, unsigned(part.length.value)[0]), max(1, unsigned(part.length.value)[1])), part.length.written)
+        self.stack_bytes(s, part._replace(length=least), (to, count), self.used, -STACK)
+        return [to, count]

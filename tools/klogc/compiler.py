@@ -1,0 +1,175 @@
+"""Compiles a transform in C to an object, by the clang that is here.
+
+BPF lacks signed division, and copies whose length is no constant: in the text of LLVM that clang writes they become calls, of
+what the lowering writes as the machine's own instructions, and of functions of runtime.h."""
+import functools
+import os
+import re
+import shutil
+import subprocess
+import tempfile
+
+from .program import RUNTIME, Refused
+
+HERE = os.path.dirname(os.path.abspath(__file__))
+INCLUDES = (os.path.join(os.path.dirname(os.path.dirname(HERE)), "include"), os.path.join(HERE, "include"))
+OLDEST, NEWEST = 14, 30
+OPTIONS = ("-target", "bpf", "-mcpu=v3", "-g", "-nostdlibinc", "-fno-stack-protector")
+LEVEL = "-O2"
+SECONDS = 600
+
+
+class NotCompiled(Refused):
+    """What the compiler said."""
+
+
+# ---- the compiler
+
+def version(name):
+    """The version of a clang that has BPF, or 0."""
+    path = shutil.which(name)
+    if path is None:
+        return 0
+    try:
+        done = subprocess.run([path, "--version"], capture_output=True, text=True, check=False, timeout=SECONDS)
+    except (OSError, subprocess.TimeoutExpired):
+        return 0
+    found = re.search(r"clang version (\d+)", done.stdout)
+    return int(found[1]) if found else 0
+
+
+@functools.cache
+def found_clang():
+    """`clang` if it is new enough, else the newest of clang-14, clang-15 and so on."""
+    for name in ("clang", *(f"clang-{n}" for n in range(NEWEST, OLDEST - 1, -1))):
+        if version(name) >= OLDEST:
+            return name
+    raise Refused(f"there is no clang: klogc needs one from version {OLDEST} on, as `clang` or `clang-N` on the path")
+
+
+# ---- LLVM's text
+
+DIVISION = re.compile(r"^  (\S+) = (sdiv|srem)(?: exact)? (i\d+) (\S+), ([^,\s]+)(.*)$", re.M)
+COPYING = re.compile(r"(?:(?:tail|musttail|notail) )?call void @llvm\.(memcpy|memmove|memset)\.[\w.]+\(")
+
+
+class Text:
+    """LLVM's text, with calls for what BPF lacks."""
+
+    def __init__(self, text):
+        self.text, self.count, self.declared = text, 0, set()
+
+    def changed(self):
+        """The changed text, or None if nothing is to be changed."""
+        text = self._copies(DIVISION.sub(self._division, self.text))
+        return text + "\n" + "\n".join(sorted(self.declared)) + "\n" if self.count else None
+
+    def _division(self, found):
+        result, what, kind, a, b, rest = found.groups()
+        if kind not in ("i8", "i16", "i32", "i64"):
+            return found[0]
+        self.count += 1
+        width = 64 if kind == "i64" else 32
+        name = f"__klog_{'sdiv' if what == 'sdiv' else 'smod'}{width}"
+        self.declared.add(f"declare i{width} @{name}(i{width}, i{width})")
+        if kind in ("i32", "i64"):
+            return f"  {result} = call {kind} @{name}({kind} {a}, {kind} {b}){rest}"
+        own = f"%klog{self.count}"
+        return (f"  {own}a = sext {kind} {a} to i32\n  {own}b = sext {kind} {b} to i32\n"
+                f"  {own}c = call i32 @{name}(i32 {own}a, i32 {own}b){rest}\n  {result} = trunc i32 {own}c to {kind}")
+
+    def _copies(self, text):
+        parts, at = [], 0
+        for found in COPYING.finditer(text):
+            arguments, end = arguments_from(text, found.end())
+            if len(arguments) == 4 and arguments[2].startswith("i64 %"):
+                self.count += 1
+                parts += [text[at:found.start()], self._copy(found[1], arguments)]
+                at = end
+        return "".join([*parts, text[at:]])
+
+    def _copy(self, name, arguments):
+        pointer = "ptr" if arguments[0].startswith("ptr ") else "i8*"
+        to, second, count = (operand_of(a) for a in arguments[:3])
+        kind = "i8" if name == "memset" else pointer
+        return f"%klog{self.count} = call {pointer} @klog_{name}({pointer} {to}, {kind} {second}, i64 {count})"
+
+
+def arguments_from(text, at):
+    """The arguments of a call whose parenthesis was opened before `at`, and the place after the one that closes it."""
+    found, depth, start = [], 0, at
+    while at < len(text):
+        letter = text[at]
+        if letter in "([{":
+            depth += 1
+        elif letter == "," and depth == 0 or letter == ")" and depth == 0:
+            found.append(text[start:at].strip())
+            start = at + 1
+            if letter == ")":
+                return found, at + 1
+        elif letter in ")]}":
+            depth -= 1
+        at += 1
+    return [], at
+
+
+def operand_of(argument):
+    """An argument without its type and its attributes."""
+    found = re.search(r"\b(getelementptr|bitcast|inttoptr|addrspacecast)\b.*", argument, re.S)
+    return found[0] if found else argument.split(" ")[-1]
+
+
+# ---- compiling
+
+def first_error(printed, source):
+    """The compiler's first error as one line, by the source's own name."""
+    for line in printed.split("\n"):
+        found = re.match(r"(.*?):(\d+):\d+: (?:fatal )?error: (.*)", line)
+        if found:
+            return NotCompiled(found[3], f"{os.path.basename(found[1])}:{found[2]}")
+    error = next((line for line in printed.split("\n") if "error" in line), printed.strip().split("\n")[-1])
+    return NotCompiled(f"not compiled: {error.strip()}", os.path.basename(source))
+
+
+class Compiler:
+    """A clang with its options."""
+
+    def __init__(self, name=None, level=LEVEL, more=()):
+        self.name = name or found_clang()
+        self.words = [self.name, *OPTIONS, level, "-w", *more]
+
+    def run(self, *words):
+        try:
+            return subprocess.run([*self.words, *words], capture_output=True, text=True, check=False, timeout=SECONDS, errors="replace")
+        except subprocess.TimeoutExpired:
+            raise NotCompiled(f"clang takes more than {SECONDS} seconds") from None
+        except OSError as fault:
+            raise Refused(f"{self.name}: {fault.strerror}") from None
+
+    def text_of(self, source, target):
+        """Writes LLVM's text of a source. One that has a memcmp of its own, or the like, does without that of runtime.h."""
+        includes = [f"-I{os.path.dirname(os.path.abspath(source))}", *(f"-I{folder}" for folder in INCLUDES)]
+        for runtime in (["-include", os.path.join(HERE, RUNTIME)], []):
+            done = self.run(*includes, *runtime, "-S", "-emit-llvm", source, "-o", target)
+            if done.returncode == 0:
+                break
+            if "same mangled name" not in done.stderr:
+                raise first_error(done.stderr, source)
+        if done.returncode:
+            raise first_error(done.stderr, source)
+        with open(target, encoding="utf-8", errors="surrogateescape") as it:
+            return it.read()
+
+    def object_of(self, source):
+        """The object of a source, as bytes."""
+        with tempfile.TemporaryDirectory(prefix="klogc-") as folder:
+            text, target = os.path.join(folder, "it.ll"), os.path.join(folder, "it.o")
+            changed = Text(self.text_of(source, text)).changed()
+            if changed is not None:
+                with open(text, "w", encoding="utf-8", errors="surrogateescape") as it:
+                    it.write(changed)
+            done = self.run("-x", "ir", "-c", text, "-o", target)
+            if done.returncode:
+                raise first_error(done.stderr, source)
+            with open(target, "rb") as it:
+                return it.read()

@@ -1,0 +1,140 @@
+"""From an object to an image: the lowering, registers and layout, run again until they agree on the stack and on loops' rounds."""
+from typing import NamedTuple
+
+import second_machine as machine
+
+from .code import TRAPS
+from .layout import SLOTS, filled, laid_out, view
+from .lowering import Lowering
+from .program import STACK, Program, Refused
+from .registers import Allocator, trimmed
+from .writer import Again, Learned, Settings, TooLong
+
+MOST_RUNS, MOST_TRIES, MOST_FILLS = 200, 40, 4
+ROUNDS = 64
+FLAT_SLOTS = 2048
+LARGEST_TABLE = max(machine.TABLES)
+
+
+class Lowered(NamedTuple):
+    """An image: its bytes, its helper table, the C line of each instruction or None, the lines at which it may reject by each of the
+    codes that the pass adds, and the rounds of each loop by its line, with whether its end is proved."""
+    data: bytes
+    table: int
+    lines: list
+    codes: dict
+    loops: dict
+
+
+def table_of(code):
+    """The least helper table that has the helpers of a program."""
+    called = {i[1] for i in code if i[0] == "call"}
+    return next(table for table, helpers in sorted(machine.TABLES.items()) if called <= set(helpers))
+
+
+def lower(program: Program, rounds=ROUNDS, strict=True, slots=SLOTS) -> Lowered:
+    """Lowers a program. Loops are copied round by round until their end is proved; where that has no end, or takes more slots
+    than an image has, the loops with the most rounds get `rounds`, and then fewer.
+
+    Compilers make two loops of one that has two ways round, and copies of a loop in a loop are many. So it is first tried
+    whether few slots are enough where both are one."""
+    if program.order(True)[1] != program.order()[1]:
+        try:
+            lowering, image = tried(program, Settings({}, FLAT_SLOTS, strict, True), Learned())
+            if image:
+                return report(lowering, image)
+        except Refused:
+            pass
+    learned, caps = Learned(), {}
+    for _ in range(MOST_TRIES):
+        lowering, image = tried(program, Settings(caps, slots, strict, False), learned)
+        if image:
+            return report(lowering, image)
+        limit_longest_loop(lowering, caps, rounds)
+    raise Refused("the program has more than 16,384 slots even with few rounds of its loops", program.line(program.entry))
+
+
+def tried(program, settings, learned):
+    """The pass and its image, with as many places on the stack as its variables take; no image where it has too many slots."""
+    while True:
+        lowering, blocks = attempt(program, settings, learned)
+        if blocks is None:
+            return lowering, None
+        try:
+            image = finished(lowering, blocks)
+        except TooLong:
+            return lowering, None
+        if image:
+            return lowering, image
+
+
+def attempt(program, settings, learned):
+    """One run of the lowering, begun again with what it learned of the stack; no blocks where they are too many."""
+    for _ in range(MOST_RUNS):
+        lowering = Lowering(program, settings, learned)
+        try:
+            return lowering, lowering.run()
+        except Again:
+            continue
+        except TooLong:
+            return lowering, None
+    raise Refused("the function uses the stack in too many ways", program.line(program.entry))
+
+
+def limit_longest_loop(lowering, caps, rounds):
+    able = {head: n for head, n in lowering.deepest.items() if n >= 2 and caps.get(head, 1 << 30) > 2}
+    if not able:
+        raise Refused("the program has more than 16,384 slots", lowering.program.line(lowering.program.entry))
+    head = max(able, key=lambda h: able[h])
+    caps[head] = min(rounds, able[head]) if head not in caps else caps[head] // 2
+
+
+def finished(lowering, blocks):
+    """The image, with tests that never hold left out and with the stack's bytes set that may not be; None where the variables'
+    places were too few."""
+    learned, program = lowering.learned, lowering.program
+    code, wanted = trimmed(blocks)
+    allocator = Allocator(code, wanted, lowering)
+    items = allocator.run()
+    if allocator.most > learned.spills:
+        learned.spills = allocator.most
+        return None
+    if lowering.spill_at + 8 * allocator.most > STACK:
+        raise Refused(f"the functions' variables, and what has no register, take more than the stack's {STACK} bytes", program.line(program.entry))
+    data = constant_bytes(lowering)
+    for _ in range(MOST_FILLS):
+        image = laid_out(filled(data) + items)
+        seen = view(image.data, LARGEST_TABLE)
+        if seen.fault:
+            place = image.items[seen.at].place
+            raise Refused(f"klog's verifier does not follow this: {seen.fault}", program.line(place) if place else None)
+        if lowering.scratch + 8 > STACK and any(b >= lowering.scratch for b in seen.unset):
+            raise Refused(f"the function takes more than the stack's {STACK} bytes", program.line(program.entry))
+        if not seen.unset and not seen.never:
+            break
+        data |= {b: 0 for b in seen.unset if b not in data}
+        gone = {image.items[k].number for k in seen.never} - {-1}
+        items = [item for item in items if item.number not in gone or item.kind == "label"]
+    return image
+
+
+def constant_bytes(lowering):
+    """The constants that are put on the stack, by its bytes."""
+    data = {}
+    for section, (first, last) in lowering.learned.constants.items():
+        held = lowering.program.constants(section)[0]
+        data |= {lowering.constants_at[section] + k: held[k] for k in range(first, last)}
+    return data
+
+
+def report(lowering, image):
+    program = lowering.program
+    line = lambda place: program.line(place) if place else None
+    codes = {TRAPS[trap]: sorted(lines) for trap, lines in lowering.rejects.items() if lines}
+    loops = {}
+    for head, n in lowering.deepest.items():
+        at = next(filter(None, (line(head._replace(slot=slot)) for slot, _ in program.blocks[head].instructions)), "?")
+        most, proved = loops.get(at, (0, True))
+        loops[at] = max(most, n + 1), proved and head not in lowering.unproved
+    code = machine.decode(image.data)
+    return Lowered(image.data, table_of(code), [line(item.place) for item in image.items], codes, loops)

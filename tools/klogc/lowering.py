@@ -1,0 +1,116 @@
+"""Runs a program's blocks in an order that leads forward, a copy of each for each round of the loops around it and for each way in
+which its variables are addresses, with what is known there, and writes the code."""
+import heapq
+from typing import NamedTuple
+
+from .calls import Calls
+from .code import ENTRY, LOOP, Entry, Goto, Move, register
+from .program import Block, Place
+from .state import State
+from .values import const, length, number
+from .writer import Ended, TooLong
+
+
+class Copy(NamedTuple):
+    """A block's copy: the block, the rounds of the loops around it, and the kinds of its variables."""
+    place: Place
+    rounds: tuple
+    kinds: tuple
+
+
+def kind(v):
+    """What sets ways apart on which a variable is something else: the region of an address, and that it is the key's length, since
+    where one is the key's length or the value's it goes with an address of the key or the value."""
+    return v.region if v.region is not None else "length" if v.length_region() == "key" else None
+
+
+class Lowering(Calls):
+    def __init__(self, program, settings, learned):
+        super().__init__(program, settings, learned)
+        self.places, self.heads = program.order(settings.flat)
+        self.live = program.liveness()
+        self.waiting: dict[Copy, State] = {}
+        self.queue: list = []
+        self.deepest: dict[Place, int] = {}
+        self.unproved: set[Place] = set()
+        self.arrived = 0
+        self.current: Copy | None = None
+
+    def run(self):
+        """The blocks that are written, each a label and its instructions, in an order in which jumps lead forward."""
+        self.start("entry")
+        self.emit(Entry())
+        s = State()
+        for r, v in enumerate((const(0, "value"), length("value"), const(0, "key"), length("key"), number(0, 3)), 1):
+            s.variables[register(r)] = v
+        for r, v in ((1, 0), (2, ENTRY[1]), (3, 0), (4, ENTRY[3])):
+            self.emit(Move(register(r), v, 64))
+        place = self.program.entry
+        self.emit(Goto(self.arrive(place, (0,) * len(self.heads[place]), s)))
+        while self.queue:
+            _, _, copy = heapq.heappop(self.queue)
+            self.current = copy
+            self.start(copy)
+            self.block(self.program.blocks[copy.place], self.waiting.pop(copy))
+            if self.size > 2 * self.settings.slots:
+                raise TooLong
+        return self.blocks
+
+    # ---- copies of blocks
+
+    def arrive(self, place, rounds, s: State):
+        """A way leads to a copy of a block, which has what is known on all ways to it."""
+        read = [register(r) if isinstance(r, int) else register(r[1], self.copies[r[0]]) for r in self.live[place]]
+        read += [name for name in s.variables if name.kind == "slot"]
+        known = [(name, kind(s.variables[name])) for name in read if name in s.variables]
+        copy = Copy(place, rounds, tuple(sorted((name, str(what)) for name, what in known if what is not None)))
+        if copy in self.waiting:
+            self.waiting[copy] = self.waiting[copy].join(s)
+            return copy
+        self.waiting[copy] = s
+        key = []
+        for at, where in enumerate(self.places[place]):
+            key += [where, *rounds[at:at + 1]]
+        self.arrived += 1
+        heapq.heappush(self.queue, (key, self.arrived, copy))
+        return copy
+
+    def edge(self, to, s: State):
+        """Where a way from the current block leads: to a copy of a block, or to the end of a loop of too many rounds."""
+        ours, theirs, k = self.heads[self.current.place], self.heads[to], 0
+        while k < min(len(ours), len(theirs)) and ours[k] == theirs[k]:
+            k += 1
+        rounds = list(self.current.rounds[:k]) + [0] * (len(theirs) - k)
+        if theirs and theirs[-1] == to and k == len(theirs):
+            rounds[-1] += 1
+            if rounds[-1] >= self.settings.rounds.get(to, 1 << 30):
+                self.unproved.add(to)
+                self.rejects[LOOP].add(self.program.line(to) or "?")
+                return LOOP
+            self.deepest[to] = max(self.deepest.get(to, 0), rounds[-1])
+        return self.arrive(to, tuple(rounds), s)
+
+    # ---- a block
+
+    def block(self, block: Block, s: State):
+        try:
+            for slot, i in block.instructions:
+                self.here = Place(block.path, block.section, slot)
+                self.instruction(s, i, block)
+            if i[0] not in ("jump", "exit"):
+                self.emit(Goto(self.edge(block.next[0], s)))
+        except Ended:
+            pass
+
+    def instruction(self, s: State, i, block: Block):
+        match i[0]:
+            case "bad":
+                self.fail(i[1])
+            case "ja" | "local":
+                pass  # the way on is written at the block's end
+            case "jump":
+                self.jump(s, i, block.next[1], block.next[0])
+            case "exit":
+                self.leave(s, block)
+            case kind:
+                getattr(self, kind)(s, i)

@@ -1,0 +1,171 @@
+"""Lowers moves and operations on numbers and addresses."""
+from .code import LENGTH, OUTSIDE, Alu, Change, Move, Test
+from .program import INTRINSICS
+from .state import State
+from .values import M32, M64, MIXED, REGION_OF, added, changed, const, low32, quotient32, result
+from .writer import Given, Writer
+
+COMMUTATIVE = {"add", "mul", "and", "or", "xor"}
+
+
+class Numbers(Writer):
+    def mov(self, s: State, i):
+        _, dst, source, width = i
+        v, a = self.operand(s, source, width)
+        if width == 32:
+            self.number(v)
+            cut = low32(v)
+            if cut != v:
+                self.emit(Move(self.name(dst), a, 32))
+                self.set(s, dst, cut)
+                return
+        self.define(s, dst, v, a)
+
+    def wide(self, s: State, i):
+        self.define(s, i[1], const(i[2]), i[2])
+
+    def constants(self, s: State, i):
+        _, dst, section, at = i
+        self.define(s, dst, const(at, ("constants", section)), at & M64)
+
+    def change(self, s: State, i):
+        _, dst, src, change = i
+        v, a = self.operand(s, ("reg", src))
+        self.number(v)
+        known = changed(change, v)
+        if known.is_const():
+            self.define(s, dst, known, known.lo)
+        elif change[0] == "movsx" and known == v:
+            self.define(s, dst, known, a)
+        else:
+            self.emit(Change(change, self.name(dst), a))
+            self.set(s, dst, known)
+
+    def alu(self, s: State, i):
+        _, dst, source, width, name = i
+        x, y = self.operand(s, ("reg", dst)), self.operand(s, source, width)
+        v, w, region = x.value, y.value, None
+        if v.region is not None or w.region is not None:
+            region = self.result_region(name, width, v, w)
+            if name == "or" and v.mask & w.mask:
+                self.or_address(s, dst, x, y, region)
+                return
+        known = result(name, width, v.in_region(None), w.in_region(None)).in_region(region)
+        if width == 64 and w.is_const() and not known.is_const() and region is None:
+            known = shifted_back(s, name, v, w.lo, known)
+        self.set(s, dst, known)
+        if known.is_const():
+            self.emit(Move(self.name(dst), known.lo, 64))
+        elif known in (v, w):
+            self.emit(Move(self.name(dst), x.written if known == v else y.written, 64))
+        elif known.terms in REGION_OF and known.c == 0:
+            self.emit(Move(self.name(dst), LENGTH[REGION_OF[known.terms]], 64))
+        else:
+            self.write_alu(name, width, self.name(dst), x, y)
+
+    # ---- operations on addresses
+
+    def result_region(self, name, width, v, w):
+        """The region of an operation on an address, or None where it gives a number."""
+        if MIXED in (v.region, w.region):
+            self.number(v if v.region == MIXED else w)
+        if width == 32:
+            self.fail("32 bits of an address are used as a number")
+        if v.region is None and name in ("add", "or") or w.region is None and name in ("add", "sub", "or", "and"):
+            region = v.region or w.region
+            if name in ("add", "sub") or region[0] != "minus":
+                return region
+        elif name == "xor" and w.region is None and w.is_const() and w.lo == M64:
+            return negated(v.region)
+        elif name == "sub" and v.region is None:
+            return negated(w.region)
+        elif name == "sub" and v.region == w.region:
+            return None
+        elif name == "add" and v.region == negated(w.region):
+            return None
+        return self.fail("an address is multiplied, shifted, or added to one of something else: klog's addresses are not numbers")
+
+    def or_address(self, s: State, dst, x: Given, y: Given, region):
+        """An `or` by which the compiler adds, since it knew that they have no bit in common: that is tested, and they are added."""
+        at, other = (x, y) if x.value.region is not None else (y, x)
+        if not at.value.is_const() or other.value.is_const() or at.value.lo > 512:
+            self.fail("the compiler joined bits of an address with a number, of which too little is known")
+        self.emit(Test("set", 64, other.written, at.value.lo, OUTSIDE, True))
+        self.set(s, dst, added(x.value.in_region(None), y.value.in_region(None)).in_region(region))
+        self.emit(Alu("add", 64, self.name(dst), other.written, at.value.lo))
+
+    # ---- what is written for an operation
+
+    def write_alu(self, name, width, d, x: Given, y: Given):
+        """An operation of 32 bits is written as one of 64 where that gives the same, since the verifier knows more of it."""
+        (v, a), (w, b) = x, y
+        if width == 32:
+            if any(low32(u) != u and not u.is_const() for u in (v, w)):
+                self.emit(Alu(name, 32, d, a, b))
+                return
+            v, w = low32(v), low32(w)
+            a, b = (v.lo if v.is_const() else a), (w.lo if w.is_const() else b)
+        if name in ("or", "xor") and v.mask & w.mask == 0:
+            name = "add"
+        if name in ("add", "sub") and w.is_const():
+            name, b, width = step(name, v, w, width)
+        elif width == 32 and fits(name, v, w):
+            width = 64
+        if v.is_const() and name in COMMUTATIVE:
+            a, b = b, a
+        self.emit(Alu(name, width, d, a, b))
+
+    def intrinsic(self, s: State, i):
+        name, width = INTRINSICS[i[1]]
+        (v, a), (w, b) = self.operand(s, ("reg", 1)), self.operand(s, ("reg", 2))
+        if width == 32:
+            v, w = low32(v), low32(w)
+        known = result(name, width, v, w)
+        if width == 32:
+            known = quotient32(name, v, w, known)
+            a, b = (v.lo if v.is_const() else a), (w.lo if w.is_const() else b)
+        self.clobber(s)
+        self.emit(Alu(name, width, self.name(0), a, b))
+        self.set(s, 0, known)
+
+    def clobber(self, s: State):
+        """What a call leaves in r1 to r5: nothing."""
+        for r in range(1, 6):
+            s.variables.pop(self.name(r), None)
+
+
+def shifted_back(s: State, name, v, count, known):
+    """What is known of a shift's result: where a number was shifted to the left without a loss, it is the number again when it is
+    shifted back, as compilers do to cut a number to 32 bits."""
+    if name == "lsh" and 0 <= v.lo and v.hi << count < 1 << 63:
+        s.shifts[known.terms] = count, v
+    elif name in ("rsh", "arsh") and v.c == 0 and s.shifts.get(v.terms, (None,))[0] == count:
+        return s.current(s.shifts[v.terms][1])
+    return known
+
+
+def negated(region):
+    return region[1] if isinstance(region, tuple) and region[0] == "minus" else ("minus", region)
+
+
+def step(name, v, w, width):
+    """An addition or a subtraction of a constant, by its magnitude, and the width in which it is exact."""
+    k = w.lo - (1 << width) if w.lo >> (width - 1) else w.lo
+    if k < 0:
+        name, k = ("sub" if name == "add" else "add"), -k
+    sign = 1 if name == "add" else -1
+    exact = v.lo + sign * k >= 0 and v.hi + sign * k <= M32
+    return name, k, 64 if exact else width
+
+
+def fits(name, v, w):
+    """Whether an operation of 32 bits on these numbers gives what that of 64 bits does."""
+    if name == "add":
+        return v.hi + w.hi <= M32
+    if name == "sub":
+        return v.lo >= w.hi
+    if name == "mul":
+        return v.hi * w.hi <= M32
+    if name == "lsh":
+        return w.is_const() and w.lo < 32 and v.hi << w.lo <= M32
+    return name in ("and", "or", "xor", "div", "mod") or name == "rsh" and w.hi < 32

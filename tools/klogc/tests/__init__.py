@@ -1,0 +1,1 @@
+"""Tests of klogc: python3 -m unittest discover -s tools/klogc/tests -t tools"""

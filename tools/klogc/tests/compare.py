@@ -1,0 +1,146 @@
+#!/usr/bin/env python3
+"""Compares random C programs with what klogc makes of them, on random records.
+
+    tools/klogc/tests/compare.py [--seed SEED] [--programs N] [--records N] [--level=-O1|-O2|-Os] [--compiler CLANG]
+
+The object's code runs by klogc's interpreter (meaning.py), the image on the machine of tools/dev. Where the object's code does what it
+must not, the image may do anything but trap; a program that is refused for it is tried again with codes 252. The status is 1
+where an outcome differs."""
+import argparse
+import collections
+import os
+import random
+import sys
+import tempfile
+
+if __name__ == "__main__":
+    sys.path[0] = os.path.dirname(os.path.dirname(os.path.dirname(os.path.realpath(__file__))))
+
+from klogc.compiler import LEVEL, Compiler
+from klogc.lower import lower
+from klogc.meaning import Emission, Record, Run, Trap
+from klogc.program import Program, Refused
+from klogc.tests.programs import source
+
+import second_machine
+from second_broker import Record as Spelled
+
+OUTPUTS = 4
+PROGRAMS_IN_ONE = 10
+LOOP, ROOM = 251, 250
+TEXTS = (b'{"id":1,"name":"x"}', b"a,b,c", b"key=value", b"4111111111111111", b"Hello, World\n", b"}", b"2026-11-26 x", b"heartbeat", b"07\x03abc", b"\x08\x96\x01")
+HEADERS = ((), (), ((b"trace", b"eu"),), ((b"x", None), (b"region", b"")), ((b"a", b"1"),) * 16)
+
+
+def some_bytes(r):
+    match r.randrange(6):
+        case 0:
+            return r.choice((None, b""))
+        case 1:
+            return r.choice(TEXTS)
+        case 2:
+            return bytes(r.choice(b"a0,. \n\xff") for _ in range(r.randrange(40)))
+        case 3:
+            return r.randbytes(r.choice((1, 2, 3, 4, 7, 8, 9, 12, 16, 31, 32, 33)))
+        case 4:
+            return b"".join(r.choice(TEXTS) for _ in range(r.randrange(1, 4)))
+    return r.randbytes(r.randrange(24))
+
+
+def records(seed, count):
+    r = random.Random(seed)
+    for _ in range(count):
+        yield Record(some_bytes(r), some_bytes(r), r.choice(HEADERS), r.choice((0, 1000, 1772359200000, r.randrange(1 << 41))), r.randrange(1000), r.randrange(4))
+
+
+def image_outcome(code, record):
+    """What the image does, or the trap as a text."""
+    try:
+        got = second_machine.run(code, Spelled(0, record.key, record.value, record.headers), OUTPUTS, (record.offset, record.timestamp, record.partition))
+    except (AssertionError, IndexError, TypeError) as fault:
+        return f"trapped: {fault}"
+    return got if isinstance(got, int) else [Emission(*e[:3], tuple(e[3])) for e in got]
+
+
+def object_outcome(program, record):
+    try:
+        return Run(program, record, OUTPUTS, fill=None).outcome()
+    except Trap as trap:
+        return trap
+
+
+def judged(expected, got, strict):
+    """A word for two outcomes; one that is `wrong` begins so."""
+    if isinstance(got, str):
+        return f"wrong: {got}"
+    if isinstance(expected, Trap):
+        return f"wrong: strict, and {expected}" if strict and "outside" in str(expected) and got not in (LOOP, ROOM) else "trap"
+    if got == expected:
+        return "same"
+    return str(got) if got in (LOOP, ROOM) else f"wrong: {str(expected)[:200]} is meant, and {str(got)[:200]} came"
+
+
+def compared(data, name, seed, count):
+    """Counts of outcomes for one program, and the first that is wrong."""
+    program, strict = Program(data, name), True
+    try:
+        image = lower(program)
+    except Refused:
+        strict = False
+        image = lower(program, strict=False)
+    code, tally = second_machine.decode(image.data), collections.Counter()
+    fault = second_machine.verify(code, image.table)
+    if fault:
+        return tally, f"not verified: {fault}"
+    tally["strict" if strict else "with 252"] += 1
+    for record in records(seed, count):
+        word = judged(object_outcome(program, record), image_outcome(code, record), strict)
+        if word.startswith("wrong"):
+            return tally, f"{word}; {record}"
+        tally[word] += 1
+    return tally, None
+
+
+def compare(compiler, seed, count, number_of_records, folder):
+    """Compares so many programs of a seed. The results are counts, and what is wrong as (program, text)."""
+    path, tally, wrong = os.path.join(folder, f"seed{seed}.c"), collections.Counter(), []
+    with open(path, "w", encoding="utf-8") as it:
+        it.write(source(seed, count))
+    data = compiler.object_of(path)
+    for k in range(count):
+        try:
+            found, text = compared(data, f"program{k}", f"{seed} {k}", number_of_records)
+        except Refused as fault:
+            tally["refused"] += 1
+            print(f"seed {seed}, program{k}: refused: {fault}")
+            continue
+        tally += found
+        tally["programs"] += 1
+        if text:
+            wrong.append((k, text))
+    return tally, wrong
+
+
+def main():
+    words = argparse.ArgumentParser(description="Compares random C programs with what klogc makes of them.")
+    words.add_argument("--seed", type=int, default=1)
+    words.add_argument("--programs", type=int, default=20)
+    words.add_argument("--records", type=int, default=50)
+    words.add_argument("--level", default=LEVEL, choices=("-O1", "-O2", "-Os"))
+    words.add_argument("--compiler")
+    given, tally, bad = words.parse_args(), collections.Counter(), 0
+    sys.setrecursionlimit(20000)
+    with tempfile.TemporaryDirectory(prefix="klogc-") as folder:
+        compiler = Compiler(given.compiler, given.level)
+        for seed in range(given.seed, given.seed + -(-given.programs // PROGRAMS_IN_ONE)):
+            found, wrong = compare(compiler, seed, PROGRAMS_IN_ONE, given.records, folder)
+            tally += found
+            for k, text in wrong:
+                print(f"seed {seed}, program{k}: {text}", flush=True)
+            bad += len(wrong)
+    print(", ".join(f"{n} {word}" for word, n in sorted(tally.items())) + f"; {bad} wrong")
+    sys.exit(int(bad > 0))
+
+
+if __name__ == "__main__":
+    main()

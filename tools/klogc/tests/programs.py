@@ -1,0 +1,232 @@
+"""Random transforms in C: loops of all shapes, structs, arrays on the stack, pointers into the key, the value and the stack, switches,
+functions that call functions, numbers of 8 to 64 bits, signed and not, and more of them at hand than there are registers."""
+import random
+
+HEAD = """#include "klog.h"
+#include <string.h>
+struct row { u8 kind; u16 low; u32 high; u64 sum; signed char sign; };
+static const u16 table[16] = { %s };
+static const char *const names[4] = { "heartbeat", "a", "key=value", "xyz" };
+"""
+FUNCTIONS = """
+static %(inline)su64 %(name)s_own(u64 a, int b)
+{
+	u64 n = 0;
+	while (a > 3 && n < 6) { a = a / 3 + (b & 1); n += b > 5; n++; }
+	return n * 7 + a;
+}
+static %(inline)su64 %(name)s_sum(const u8 *p, u64 n)
+{
+	u64 all = 0;
+	for (u64 i = 0; i < n; i++)
+		all = all * 31 + p[i];
+	return all + %(name)s_own(n, 3);
+}
+static %(inline)svoid %(name)s_fill(struct row *to, u64 a)
+{
+	to->kind = a; to->low = a >> 3; to->high = a * 5; to->sum = ~a; to->sign = a;
+}
+"""
+BODY = """
+u64 %(name)s(const u8 *value, u64 value_length, const u8 *key, u64 key_length, u64 nulls)
+{
+	u64 a = value_length, b = key_length, c = record_offset(), d = 1, e = 2, f = 3;
+	u32 x = nulls, y = record_timestamp(); int s = -3; short h = 7; u8 t = 9; signed char z = -1;
+	u8 buf[32] = {1, 2, 3}; u64 w[4] = {0}; struct row row = {0}, other = {0};
+%(statements)s
+	w[0] ^= a + d; w[1] ^= b ^ c ^ e; w[2] ^= x ^ (u64)y << 32 ^ f; w[3] ^= (u64)s << 8 ^ t ^ h ^ z;
+	w[1] += row.kind + row.low + row.high + row.sum + row.sign; w[2] -= other.sum;
+	emit_value(a & 3, buf, 32);
+	return emit_value(1, w, 32);
+}
+"""
+NUMBERS = (0, 1, 2, 3, 5, 7, 8, 15, 16, 31, 48, 57, 64, 97, 122, 127, 128, 255, 256, 1000, 65535, 1 << 31, (1 << 32) - 1, 0x123456789ABC, (1 << 64) - 1)
+VARIABLES = ("a", "b", "c", "d", "e", "f", "x", "y", "s", "h", "t", "z", "row.sum", "row.low", "other.high", "row.sign")
+TYPES = ("u8", "u16", "u32", "int", "short", "long", "signed char", "u64")
+DEEPEST = 4
+
+
+class Maker:
+    def __init__(self, seed, name):
+        self.r, self.name, self.depth, self.count = random.Random(seed), name, 0, 0
+
+    def program(self):
+        inline = self.r.choice(("__attribute__((noinline)) ", "inline ", ""))
+        return FUNCTIONS % {"name": self.name, "inline": inline} + BODY % {"name": self.name, "statements": self.statements(self.r.randrange(3, 8))}
+
+    # ---- expressions
+
+    def variable(self):
+        return self.r.choice(VARIABLES)
+
+    def expression(self, depth=0):
+        r, e = self.r, lambda: self.expression(depth + 1)
+        match r.randrange(14 if depth < 3 else 4):
+            case 0 | 1 | 2:
+                return self.variable()
+            case 3:
+                return f"{r.choice(NUMBERS)}ULL"
+            case 4 | 5 | 6:
+                return f"({e()} {r.choice('+-*&|^')} {e()})"
+            case 7:
+                return f"({e()} {r.choice(('>>', '<<'))} {r.randrange(32)})"
+            case 8:
+                return f"({e()} {r.choice('/%')} {r.choice((3, 7, 10, 100, 8))})"
+            case 9:
+                return f"(({r.choice(TYPES)}){e()})"
+            case 10:
+                return f"buf[{e()} {r.choice(('& 31', '% 32', '% 20'))}]"
+            case 11:
+                return f"({self.condition()} ? {e()} : {e()})"
+            case 12:
+                return f"((int){e()} {r.choice('/%')} {r.choice((3, 7, -5, 16))})"
+        return f"table[{e()} & 15]"
+
+    def condition(self):
+        r, e = self.r, lambda: self.expression(2)
+        sign = r.choice(("<", ">", "<=", ">=", "==", "!="))
+        match r.randrange(6):
+            case 0:
+                return f"(long){e()} {sign} (long){e()}"
+            case 1:
+                return f"(int){e()} {sign} (int){e()}"
+            case 2:
+                return f"value_length {sign} {r.randrange(40)}"
+            case 3:
+                return f"{self.variable()} & {r.choice((1, 4, 64))}"
+        return f"{e()} {sign} {e()}"
+
+    # ---- statements
+
+    def statements(self, n):
+        return "\n".join("\t" + self.statement() for _ in range(n))
+
+    def index(self, kind="i"):
+        self.count += 1
+        return f"{kind}{self.count}"
+
+    def statement(self):
+        r, self.depth = self.r, self.depth + 1
+        makers = [self.assignment, self.assignment, self.element, self.guarded_byte, self.field]
+        if self.depth <= DEEPEST:
+            makers += [self.choice, self.choice, self.counted, self.ended, self.pointed, self.backward, self.switch, self.called, self.copied, self.chosen, self.compared,
+                       self.emitted, self.loaded]
+        try:
+            return r.choice(makers)()
+        finally:
+            self.depth -= 1
+
+    def assignment(self):
+        return f"{self.variable()} {self.r.choice(('=', '+=', '-=', '^=', '|=', '*='))} {self.expression()};"
+
+    def element(self):
+        if self.r.random() < 0.5:
+            return f"w[{self.expression(2)} & 3] = {self.expression(1)};"
+        return f"buf[{self.expression(2)} & 31] = {self.expression(1)};"
+
+    def field(self):
+        return f"{self.r.choice(('row', 'other'))}.{self.r.choice(('kind', 'low', 'high', 'sum', 'sign'))} = {self.expression(1)};"
+
+    def guarded_byte(self):
+        i, region = self.index(), self.r.choice(("value", "key"))
+        match self.r.randrange(4):
+            case 0:
+                n = self.r.randrange(20)
+                return f"if ({region}_length > {n}) {self.variable()} += {region}[{self.r.randrange(n + 1)}];"
+            case 1:
+                return f"if ({region}_length >= 8) {self.variable()} ^= *(const {self.r.choice(('u16', 'u32', 'u64'))} *)({region} + {self.r.randrange(4)} % 5);"
+            case 2:
+                return f"if ({region}_length >= 3) {self.variable()} -= {region}[{region}_length - {self.r.randrange(1, 4)}];"
+        return f"{{ u64 {i} = {self.expression(2)}; if ({i} < {region}_length) {self.variable()} += {region}[{i}]; }}"
+
+    def choice(self):
+        other = f" else {{\n{self.statements(1)}\n}}" if self.r.random() < 0.5 else ""
+        return f"if ({self.condition()}) {{\n{self.statements(self.r.randrange(1, 3))}\n}}{other}"
+
+    def counted(self):
+        i, way = self.index(), self.r.choice(("break", "continue"))
+        return (f"for (u64 {i} = 0; {i} < {self.r.randrange(1, 7)}; {i}++) {{\n{self.statements(1)}\n{self.variable()} += {i};"
+                f" if ({self.condition()}) {way}; {self.variable()} ^= {i}; }}")
+
+    def ended(self):
+        i, region = self.index(), self.r.choice(("value", "key"))
+        return (f"for ({self.r.choice(('u64', 'u32', 'int'))} {i} = 0; {i} < {region}_length && {i} < {self.r.randrange(3, 14)}; {i}++)"
+                f" {{ {self.variable()} ^= {region}[{i}]; buf[{i} & 31] += {self.variable()}; }}")
+
+    def pointed(self):
+        p, region = self.index("p"), self.r.choice(("value", "key"))
+        if self.r.random() < 0.3:
+            return f"for (u8 *{p} = buf + {self.r.randrange(4)}; {p} < buf + {self.r.randrange(5, 15)}; {p}++) {{ *{p} ^= {self.expression(2)}; }}"
+        return (f"for (const u8 *{p} = {region}; {p} < {region} + {region}_length && {p} < {region} + {self.r.randrange(3, 10)}; {p}++)"
+                f" {{ {self.variable()} += *{p}; {self.statements(1)} }}")
+
+    def backward(self):
+        n = self.index("n")
+        if self.r.random() < 0.5:
+            return f"{{ u64 {n} = {self.variable()} & 15; while ({n} > 1) {{ {n} -= 2; {self.variable()} += buf[{n}]; }} }}"
+        return f"{{ u32 {n} = {self.r.randrange(1, 6)}; do {{ {self.statements(1)} }} while (--{n}); }}"
+
+    def switch(self):
+        return (f"switch ({self.expression(2)} & 7) {{ case 1: {self.statement()} break; case 4: {self.statement()} case 5: {self.statement()} break;"
+                f" case 6: {self.assignment()} break; case 7: {self.assignment()} break; default: {self.statement()} }}")
+
+    def called(self):
+        match self.r.randrange(4):
+            case 0:
+                return f"{self.name}_fill(&{self.r.choice(('row', 'other'))}, {self.expression(2)});"
+            case 1:
+                return f"{self.variable()} += {self.name}_sum(buf + {self.r.randrange(8)}, {self.r.randrange(1, 9)});"
+            case 2:
+                return f"if (key_length >= 4) {self.variable()} += {self.name}_sum(key, {self.r.choice(('4', 'key_length < 9 ? key_length : 9'))});"
+        return f"{self.variable()} = {self.name}_own({self.variable()}, {self.variable()});"
+
+    def copied(self):
+        match self.r.randrange(4):
+            case 0:
+                return f"memset(buf + {self.r.randrange(8)}, {self.variable()}, {self.variable()} & 15);"
+            case 1:
+                return f"if (value_length >= 12) memcpy(buf, value + {self.r.randrange(4)}, {self.r.randrange(1, 9)});"
+            case 2:
+                return f"memmove(buf + {self.r.randrange(6)}, buf + {self.r.randrange(6)}, {self.variable()} & 7);"
+        return f"{{ u64 {(n := self.index('n'))} = value_length < 20 ? value_length : 20; memcpy(buf, value, {n}); }}"
+
+    def chosen(self):
+        p, n = self.index("p"), self.index("n")
+        return (f"{{ const u8 *{p} = value; u64 {n} = value_length; if ({self.condition()}) {{ {p} = key; {n} = key_length; }}"
+                f" if ({n} > 2) {self.variable()} += {p}[{self.r.randrange(3)}] + {p}[{n} - 1]; }}")
+
+    def compared(self):
+        text = self.r.choice(("a", "key", "xyz", "hear"))
+        match self.r.randrange(3):
+            case 0:
+                return f'if (key_length >= {len(text)} && memcmp(key, "{text}", {len(text)}) {self.r.choice(("== 0", "< 0"))}) {self.variable()}++;'
+            case 1:
+                return f"{self.variable()} += memcmp(buf, buf + 8, {self.r.randrange(1, 8)}) > 0;"
+        return f"{self.variable()} += names[{self.variable()} & 3][0] + strlen(names[{self.variable()} & 3]);"
+
+    def emitted(self):
+        match self.r.randrange(5):
+            case 0:
+                return f"emit_value({self.variable()} & 3, value, value_length);"
+            case 1:
+                return f"if (value_length >= 4) emit({self.variable()} & 7, value + 1, value_length - {self.r.randrange(1, 4)}, buf, {self.r.randrange(9)});"
+            case 2:
+                return f"{{ u64 {(n := self.index('n'))} = {self.variable()} & 31; if ({n} <= value_length) emit_value(0, value + {n}, value_length - {n}); }}"
+            case 3:
+                return f"emit_value({self.variable()} & 3, buf + {self.r.randrange(8)}, {self.variable()} & 15);"
+        return "emit_null(2);" if self.r.random() < 0.5 else "emit_record(a & 3);"
+
+    def loaded(self):
+        match self.r.randrange(3):
+            case 0:
+                return f"{self.variable()} += load_value(buf, {self.variable()} & 31, {self.r.randrange(1, 20)});"
+            case 1:
+                return f"{self.variable()} += load_key(buf + 4, {self.variable()} & 7, {self.variable()} & 15);"
+        return f"{self.variable()} += header_value(buf, {self.variable()} & 3, {self.r.randrange(1, 9)}) + header_count();"
+
+
+def source(seed, count):
+    """The text of so many programs, which are named program0, program1 and so on."""
+    r = random.Random(seed)
+    head = HEAD % ", ".join(str(r.randrange(65536)) for _ in range(16))
+    return head + "".join(Maker(f"{seed} {k}", f"program{k}").program() for k in range(count))

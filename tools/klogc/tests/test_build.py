@@ -1,0 +1,145 @@
+"""What klogc builds, what it refuses and at which line, and what it says: each source has a function for each case."""
+import os
+import subprocess
+import sys
+import tempfile
+import unittest
+
+import second_machine
+from second_broker import Record as Spelled
+
+from klogc.compiler import Compiler, Text, arguments_from, operand_of
+from klogc.lower import lower
+from klogc.meaning import Record, Run
+from klogc.program import Program, Refused
+
+KLOGC = os.path.join(os.path.dirname(os.path.dirname(os.path.abspath(__file__))), "klogc")
+HEAD = '#include "klog.h"\n#include <string.h>\n'
+ENTRY = "u64 %s(const u8 *value, u64 value_length, const u8 *key, u64 key_length, u64 nulls)\n{\n%s\n}\n"
+
+# A name, what the function has, with a mark at the line that is refused, and what is said of it.
+REFUSED = [
+    ("byte", "\tif (value_length < 3)\n\t\treturn 1;\n\treturn value[3]; /*!*/", "byte 3 of the value is read, and the value may have 3 bytes: test first that value_length is at least 4"),
+    ("bytes_of_key", "\treturn *(const u32 *)(key + 4); /*!*/", "bytes 4 to 7 of the key are read, and the key may have 0 bytes: test first that key_length is at least 8"),
+    ("before", "\treturn value[-1]; /*!*/", "a byte before the value's first is read"),
+    ("place", "\tif (value_length < 1)\n\t\treturn 1;\n\treturn value[value[0]]; /*!*/", "a byte of the value is read at a place that may be outside: test first that the place is below value_length"),
+    ("part", "\tif (value_length < 1)\n\t\treturn 1;\n\treturn emit_value(0, value, value[0]); /*!*/", "a part of the value is emitted that may end outside: test first that its end is at most value_length"),
+    ("index", "\tu64 w[4] = {1, 2, 3, 4};\n\tw[value_length] = 7; /*!*/\n\treturn emit_value(0, w, 32);", "an index may lead outside the variable: test first that it is below the number of elements"),
+    ("written", "\t((u8 *)value)[0] = 1; /*!*/\n\treturn 0;", "the value is written: it can be read alone; copy what is changed to a variable"),
+    ("global", "\tstatic u64 count;\n\treturn ++count > value_length; /*!*/", "is a global: klog has no memory between records; make it a variable of the function, or `const`"),
+    ("unknown", "\textern u64 lookup(u64 n);\n\treturn lookup(value_length); /*!*/", "`lookup` is called, which is not here: klog has the helpers of klog.h, and of C's library memcmp, memcpy and the like"),
+    ("number", "\treturn (u64)value >> 3; /*!*/", "an address is multiplied, shifted, or added to one of something else: klog's addresses are not numbers"),
+    ("length", "\tu8 text[8] = {0};\n\treturn emit_value(0, text, value_length); /*!*/", "a length of up to 1048576 is passed on with a variable of at most 8 bytes: test the length first"),
+    ("room", "\tload_value((void *)key, 0, 4); /*!*/\n\treturn 0;", "a helper writes to the key: give it a variable of the function"),
+]
+
+# A name, what the function has, and pairs of a record and an outcome.
+ACCEPTED = [
+    ("sum", "\tu64 all = 0;\n\tfor (u64 i = 0; i < value_length && i < 20; i++)\n\t\tall += value[i];\n\treturn all;", [(Record(b"k", b"\1\2\3"), 6), (Record(b"k", bytes([1]) * 30), 20)]),
+    ("signed_division", "\tint n = (int)value_length - 9;\n\treturn n / 4 + 100;", [(Record(b"k", b""), 98), (Record(b"k", bytes(20)), 102)]),
+    ("texts", '\tif (key_length == 3 && memcmp(key, "abc", 3) == 0)\n\t\treturn 7;\n\treturn 8;', [(Record(b"abc", b""), 7), (Record(b"abd", b""), 8), (Record(b"ab", b""), 8)]),
+    ("table", "\tstatic const u8 primes[8] = {2, 3, 5, 7, 11, 13, 17, 19};\n\treturn primes[value_length & 7];", [(Record(b"k", b"abc"), 7), (Record(b"k", b""), 2)]),
+    ("chosen", "\tconst u8 *from = key_length > value_length ? key : value;\n\tu64 n = key_length > value_length ? key_length : value_length;\n\treturn n ? from[n - 1] : 1;",
+     [(Record(b"abc", b"xy"), 99), (Record(b"a", b"xy"), 121), (Record(None, None), 1)]),
+    ("copied", "\tu8 to[16] = {0};\n\tu64 n = value_length < 16 ? value_length : 16;\n\tfor (u64 i = 0; i < n; i++)\n\t\tto[i] = value[n - 1 - i];\n\treturn to[0];", [(Record(b"k", b"abc"), 99), (Record(b"k", b"b" + b"a" * 20), 97)]),
+    ("switched", "\tswitch (value_length) { case 0: return 5; case 1: return 9; case 2: return 4; case 3: return 44; case 4: return 3; case 5: return 70; }\n\treturn 1;",
+     [(Record(b"k", b"abc"), 44), (Record(b"k", b"abcdef"), 1)]),
+    ("no_room", "\tu8 to[4] = {0};\n\treturn 5 + load_value(to, 3, value_length & 0);", [(Record(b"k", b"ab"), 6), (Record(b"k", b"abc"), 5)]),
+]
+
+
+def functions(cases):
+    return HEAD + "".join(ENTRY % (name, body) for name, body, *_ in cases)
+
+
+class Lowering(unittest.TestCase):
+    @classmethod
+    def setUpClass(cls):
+        cls.folder = tempfile.TemporaryDirectory(prefix="klogc-")
+        cls.compiler = Compiler()
+
+    @classmethod
+    def tearDownClass(cls):
+        cls.folder.cleanup()
+
+    def compiled(self, text, name="it.c"):
+        path = os.path.join(self.folder.name, name)
+        with open(path, "w", encoding="utf-8") as it:
+            it.write(text)
+        return self.compiler.object_of(path)
+
+    def test_refused(self):
+        text = functions(REFUSED)
+        data, marked = self.compiled(text), [k for k, line in enumerate(text.split("\n"), 1) if "/*!*/" in line]
+        for (name, _, said), line in zip(REFUSED, marked, strict=True):
+            with self.subTest(name), self.assertRaises(Refused) as raised:
+                lower(Program(data, name))
+            with self.subTest(name):
+                self.assertEqual(raised.exception.place, f"it.c:{line}")
+                self.assertIn(said, raised.exception.text)
+
+    def test_accepted(self):
+        data = self.compiled(functions(ACCEPTED))
+        for name, _, cases in ACCEPTED:
+            with self.subTest(name):
+                program = Program(data, name)
+                image = lower(program)
+                code = second_machine.decode(image.data)
+                self.assertIsNone(second_machine.verify(code, image.table))
+                self.assertEqual(image.codes, {})
+                for record, wanted in cases:
+                    self.assertEqual(Run(program, record, 4).outcome(), wanted)
+                    self.assertEqual(second_machine.run(code, Spelled(0, *record[:3]), 4, (0, 0, 0)), wanted)
+
+    def test_codes(self):
+        data = self.compiled(HEAD + ENTRY % ("it", "\treturn value[2]; /* line 5 */") + ENTRY % ("endless", "\tu64 n = value_length, steps = 1;\n\tfor (; n != 1; steps++)\n\t\tn = n & 1 ? 3 * n + 1 : n / 2;\n\treturn steps;"))
+        image = lower(Program(data, "it"), strict=False)
+        self.assertEqual(image.codes, {252: ["it.c:5"]})
+        run = lambda image, record: second_machine.run(second_machine.decode(image.data), Spelled(0, *record[:3]), 4, (0, 0, 0))
+        self.assertEqual([run(image, Record(b"k", value)) for value in (b"", b"ab", b"abc")], [252, 252, 99])
+        image = lower(Program(data, "endless"), rounds=20, slots=500)
+        self.assertEqual(list(image.codes), [251])
+        self.assertEqual([proved for _, proved in image.loops.values()], [False])
+        # From 6 it is 8 steps to 1, from 27 they are 111.
+        self.assertEqual([run(image, Record(b"k", bytes(n))) for n in (1, 6, 27)], [1, 9, 251])
+
+
+class Words(unittest.TestCase):
+    """The program's own words, and LLVM's text."""
+
+    def call(self, *words, given=""):
+        return subprocess.run([sys.executable, KLOGC, *words], input=given, capture_output=True, text=True, check=False)
+
+    def test_no_traceback(self):
+        with tempfile.TemporaryDirectory() as folder:
+            path = os.path.join(folder, "it.c")
+            for text, said in (("u64 x", r"it\.c:1: "), ('#include "klog.h"\nint other(void) { return 1; }\n', r"it\.c: there is no function `transform`; the source has `other`"),
+                               ('#include "none.h"\n', r"it\.c:1: 'none\.h' file not found"), ("\0\1", "it.c")):
+                with open(path, "w", encoding="utf-8") as it:
+                    it.write(text)
+                done = self.call("build", path)
+                with self.subTest(text):
+                    self.assertEqual(done.returncode, 1)
+                    self.assertRegex(done.stderr, said)
+                    self.assertEqual(done.stderr.count("\n"), 1, done.stderr)
+        done = self.call("build", "/nowhere/it.c")
+        self.assertEqual((done.returncode, done.stderr), (1, "/nowhere/it.c: No such file or directory\n"))
+
+    def test_llvm_text(self):
+        text = ("  %q = sdiv exact i32 %a, 4, !dbg !7\n  %r = srem i16 %a, %b\n"
+                "  call void @llvm.memcpy.p0.p0.i64(ptr nonnull align 1 %to, ptr align 1 getelementptr inbounds ([5 x i8], ptr @t, i64 0, i64 1), i64 %n, i1 false), !dbg !8\n"
+                "  tail call void @llvm.memset.p0i8.i64(i8* noundef nonnull align 8 dereferenceable(16) %to, i8 %b, i64 %n, i1 false)\n"
+                "  call void @llvm.memcpy.p0i8.p0i8.i64(i8* %a, i8* %b, i64 8, i1 false)\n")
+        changed = Text(text).changed()
+        self.assertIn("  %q = call i32 @__klog_sdiv32(i32 %a, i32 4), !dbg !7\n", changed)
+        self.assertIn("  %r = trunc i32 %klog2c to i16\n", changed)
+        self.assertIn("= call ptr @klog_memcpy(ptr %to, ptr getelementptr inbounds ([5 x i8], ptr @t, i64 0, i64 1), i64 %n), !dbg !8\n", changed)
+        self.assertIn("= call i8* @klog_memset(i8* %to, i8 %b, i64 %n)\n", changed)
+        self.assertIn("  call void @llvm.memcpy.p0i8.p0i8.i64(i8* %a, i8* %b, i64 8, i1 false)\n", changed)
+        self.assertIsNone(Text("  %q = udiv i32 %a, 4\n").changed())
+        self.assertEqual(arguments_from("(a, f(b, c)) rest", 1), (["a", "f(b, c)"], 12))
+        self.assertEqual(operand_of("i8* noundef align 1 %x"), "%x")
+
+
+if __name__ == "__main__":
+    unittest.main()
