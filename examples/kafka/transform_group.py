@@ -6,7 +6,8 @@
                        [--set KEY=VALUE ..] [--set-consumer KEY=VALUE ..] [--set-producer KEY=VALUE ..]
 
 It needs confluent-kafka (Debian: python3-confluent-kafka) and libklog.so (tools/build_library.sh). Start as many
-members as there are cores to use, on one machine or on many: the group shares the partitions out.
+members as there are cores to use, on one machine or on many: the group shares the partitions out. It is here to be read
+and changed: member.c beside it takes some times more records, and goes on at one that klog does not take.
 
 - What the program emits to its output Q goes to the Q-th of the outputs, to the partition that the record came from. So
   each output topic has as many partitions as the input, and a partition keeps its order.

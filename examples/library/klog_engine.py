@@ -11,6 +11,7 @@ from ctypes import POINTER, byref, c_size_t, c_uint32, c_uint64
 BYTES = ctypes.c_char_p
 NULL_KEY, NULL_VALUE = 1, 2
 FULL, BATCH = 7, 300
+UNLIMITED = 2**64 - 1
 MOST_KEY, MOST_VALUE = 4096, 1048576
 MOST_HEADER_KEY, MOST_HEADER_VALUE = 255, 4096
 
@@ -90,7 +91,7 @@ class Engine:
         self.declare("klog_emission_header", handle, c_size_t, c_size_t, POINTER(Header))
         self.declare("klog_emission_header_key", handle, c_size_t, c_size_t, BYTES, c_size_t)
         self.declare("klog_emission_header_value", handle, c_size_t, c_size_t, BYTES, c_size_t)
-        self.declare("klog_transform", handle, POINTER(Source), BYTES, c_size_t, handle, POINTER(Stop))
+        self.declare("klog_transform_within", handle, POINTER(Source), BYTES, c_size_t, c_uint64, handle, POINTER(Stop))
         self.declare("klog_counts_of", handle, POINTER(Counts))
         self.declare("klog_reject_at", handle, c_size_t, POINTER(Reject))
         self.declare("klog_output_at", handle, c_size_t, POINTER(Output))
@@ -187,12 +188,13 @@ class Program:
         value = None if header.nulls & NULL_VALUE else bytes(self.value_bytes[:header.value_length])
         return bytes(self.key_bytes[:header.key_length]), value
 
-    def transform(self, batches, offset=0, partition=0, outputs=1):
-        """What the program makes of all records of some record batches, of which the first has this offset."""
+    def transform(self, batches, offset=0, partition=0, outputs=1, limit=UNLIMITED):
+        """What the program makes of all records of some record batches, of which the first has this offset. It is a fault
+        where the batches of the outputs take more bytes than the limit."""
         library, source, stop = self.library, self.source, self.stop
         source.offset, source.partition, source.outputs = offset, partition, outputs
-        fault = library.klog_transform(byref(self.program), byref(source), batches, len(batches), byref(self.batches),
-                                       byref(stop))
+        fault = library.klog_transform_within(byref(self.program), byref(source), batches, len(batches), limit,
+                                              byref(self.batches), byref(stop))
         if fault > BATCH or fault == FULL:
             raise BatchFault(self.engine.text(fault, stop.record), stop)
         self.engine.check(fault or library.klog_counts_of(byref(self.batches), byref(self.counts)))

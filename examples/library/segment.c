@@ -8,6 +8,9 @@
 
 enum { LONGEST_IMAGE = 131072, ROOM = 16 << 20, FRONT = 12, MOST_OUTPUTS = 64 };
 
+/* The most bytes of rows that one call may make: a program that emits much ends with KLOG_LIMIT, not the memory. */
+static const uint64_t most_rows = 256 << 20;
+
 /* An output partition: its file, and the offset of its next row. */
 struct output {
 	FILE *file;
@@ -73,7 +76,7 @@ static void renumber(uint8_t *batches, size_t length, uint64_t *next)
 	}
 }
 
-static int write_output(klog_handle *batches, size_t number, struct output *to)
+static int write_output(const klog_handle *batches, size_t number, struct output *to)
 {
 	klog_output told;
 	uint32_t fault = klog_output_at(batches, number, &told);
@@ -91,7 +94,7 @@ static int write_output(klog_handle *batches, size_t number, struct output *to)
 	return !is_done;
 }
 
-static void print_rejects(klog_handle *batches, size_t codes)
+static void print_rejects(const klog_handle *batches, size_t codes)
 {
 	klog_reject reject;
 	for (size_t k = 0; k < codes && klog_reject_at(batches, k, &reject) == KLOG_OK; k++)
@@ -99,7 +102,7 @@ static void print_rejects(klog_handle *batches, size_t codes)
 }
 
 /* Prints what was made of batches, and writes it. */
-static int write_outputs(klog_handle *batches, struct input *input, struct output *outputs)
+static int write_outputs(const klog_handle *batches, struct input *input, struct output *outputs)
 {
 	klog_counts counts;
 	uint32_t fault = klog_counts_of(batches, &counts);
@@ -118,12 +121,12 @@ static int write_outputs(klog_handle *batches, struct input *input, struct outpu
 
 /* Transforms a piece of the file: whole batches, or what is left of it. A call is all or nothing, so the batches before
  * a faulty one get a call of their own. */
-static int transform(klog_handle *program, klog_handle *batches, size_t length, struct input *input,
+static int transform(const klog_handle *program, klog_handle *batches, size_t length, struct input *input,
 		     struct output *outputs)
 {
 	klog_stop stop;
 	char call[64] = "transform";
-	uint32_t fault = klog_transform(program, &input->source, bytes, length, batches, &stop);
+	uint32_t fault = klog_transform_within(program, &input->source, bytes, length, most_rows, batches, &stop);
 	if (fault > KLOG_BATCH || fault == KLOG_FULL) {
 		if (stop.byte > 0 && transform(program, batches, stop.byte, input, outputs))
 			return 1;
@@ -136,7 +139,7 @@ static int transform(klog_handle *program, klog_handle *batches, size_t length, 
 	return write_outputs(batches, input, outputs);
 }
 
-static int transform_file(klog_handle *program, const char *name, struct input *input, struct output *outputs)
+static int transform_file(const klog_handle *program, const char *name, struct input *input, struct output *outputs)
 {
 	klog_handle batches = KLOG_NOTHING;
 	FILE *file = fopen(name, "rb");

@@ -59,8 +59,8 @@ def text(value):
 class Broker:
     """One broker of one topic with one partition, which keeps what is produced to it."""
 
-    def __init__(self, produce):
-        self.versions = [(PRODUCE, 0, produce), (FETCH, 0, 4), (METADATA, 0, 1), (FIND_COORDINATOR, 0, 1), (API_VERSIONS, 0, 0),
+    def __init__(self, produce, fetch=4):
+        self.versions = [(PRODUCE, 0, produce), (FETCH, 0, fetch), (METADATA, 0, 1), (FIND_COORDINATOR, 0, 1), (API_VERSIONS, 0, 0),
                          (INIT_PRODUCER_ID, 0, 0), (ADD_PARTITIONS, 0, 0), (END_TRANSACTION, 0, 0)]
         self.kept = []
         self.server = socket.create_server(("127.0.0.1", 0))
@@ -127,6 +127,7 @@ class Broker:
                 partition = request.take("i")
                 self.kept.append(request.bytes())
                 answers += struct.pack(">ihq", partition, 0, 0) + (struct.pack(">q", -1) if version >= 2 else b"")
+                answers += struct.pack(">q", 0) if version >= 5 else b""
         if acks == 0:
             return None
         return struct.pack(">i", topics) + answers + (struct.pack(">i", 0) if version >= 1 else b"")

@@ -1,18 +1,23 @@
 #!/usr/bin/env python3
-"""Measures members of examples/kafka/transform_group.py against librdkafka's mock cluster (docs/scaling.md).
+"""Measures members of examples/kafka against librdkafka's mock cluster (docs/scaling.md).
 
-Not part of the build. On Debian, and Linux, with a libklog.so that tools/build_library.sh made:
+Not part of the build. On Debian, and Linux, with a libklog.so that tools/build_library.sh made, and for `rates` and the
+others with --member the member in C, which its Makefile made:
 
-    apt-get install -y python3-kafka python3-confluent-kafka
-    /usr/bin/python3 tools/dev/kafka_scaling.py LIBRARY record           # a run of a program in Python, by itself
-    /usr/bin/python3 tools/dev/kafka_scaling.py LIBRARY members 1 2 4    # as many members on one topic, in turn
-    /usr/bin/python3 tools/dev/kafka_scaling.py LIBRARY rest 1 100 1000  # a member of a topic of as many idle partitions
-    /usr/bin/python3 tools/dev/kafka_scaling.py LIBRARY shares           # a member joins, leaves, dies
+    apt-get install -y python3-kafka python3-confluent-kafka librdkafka-dev gcc
+    /usr/bin/python3 tools/dev/kafka_scaling.py LIBRARY record                   # a run of a program in Python, by itself
+    /usr/bin/python3 tools/dev/kafka_scaling.py LIBRARY --member MEMBER rates    # Python, C, and librdkafka alone
+    /usr/bin/python3 tools/dev/kafka_scaling.py LIBRARY [--member MEMBER] members 1 2 4    # as many on one topic, in turn
+    /usr/bin/python3 tools/dev/kafka_scaling.py LIBRARY [--member MEMBER] rest 1 100 1000  # of as many idle partitions
+    /usr/bin/python3 tools/dev/kafka_scaling.py LIBRARY [--member MEMBER] shares           # one joins, leaves, dies
 
-`members` and `rest` take the mock cluster as it is, without the transactions of mock_kafka.py: it answers a transaction's
-requests and keeps nothing of them, which costs the members the same. The topic has 64 partitions, as the mock cluster
-keeps 5 MiB of each, and records with a value of 200 bytes and a key of 16, each forwarded to one output.
+Without --member the member in Python is measured. `rates` has each form twice, in turn, and prints the better turn.
+
+All but `shares` take the mock cluster as it is, without the transactions of mock_kafka.py: it answers a transaction's
+requests and keeps nothing of them, which costs the members the same. The topic has 64 partitions, with --mebibytes (4) in
+each, as the mock cluster keeps 5, and records with a value of 200 bytes and a key of 16, each forwarded to one output.
 """
+import argparse
 import os
 import re
 import signal
@@ -28,24 +33,31 @@ from mock_kafka import Front, MockCluster
 
 TOP = os.path.join(os.path.dirname(os.path.abspath(__file__)), "..", "..")
 PARTITIONS, BATCH = 64, 500
-GIVEN = r"in assigned \[\d.*"  # what a member says that got partitions
+GIVEN = r"(?:\d+: )?in assigned \[\d.*"  # what a member says that got partitions
 TICKS = os.sysconf("SC_CLK_TCK")
 
 
-class Group:
-    """Members in processes of their own."""
+def words_of(given, servers, threads=1):
+    """A member of a form, without its name."""
+    words = [given.member, "--threads", str(threads)]
+    if not given.member:
+        words = [sys.executable, f"{TOP}/examples/kafka/transform_group.py", "--library", given.library]
+    return [*words, "--servers", servers, "--group", "g", "--image", f"{TOP}/examples/forward.bin", "--input", "in",
+            "--outputs", "out"]
 
-    def __init__(self, library, servers, folder, *settings):
-        self.folder, self.logs, self.members = folder, [], []
-        self.words = [sys.executable, f"{TOP}/examples/kafka/transform_group.py", "--servers", servers, "--group", "g",
-                      "--library", library, "--image", f"{TOP}/examples/forward.bin", "--input", "in", "--outputs", "out",
-                      *settings]
+
+class Group:
+    """Members in processes of their own. With a name each is called by it."""
+
+    def __init__(self, words, folder, is_named=True):
+        self.words, self.folder, self.is_named, self.logs, self.members = words, folder, is_named, [], []
 
     def start(self):
         name = f"m{len(self.members)}"
         self.logs.append(f"{self.folder}/{name}.log")
         with open(self.logs[-1], "w") as log:
-            self.members.append(subprocess.Popen([*self.words, "--name", name], stdout=log, stderr=log))
+            words = [*self.words, "--name", name] if self.is_named else self.words
+            self.members.append(subprocess.Popen(words, stdout=log, stderr=log))
 
     def __enter__(self):
         return self
@@ -53,6 +65,14 @@ class Group:
     def __exit__(self, *_):
         for member in self.members:
             member.kill()
+
+    def is_alive(self):
+        """Whether all members run; else the last words of one end all."""
+        for member, log in zip(self.members, self.logs):
+            if member.poll() is not None:
+                with open(log) as text:
+                    sys.exit(f"a member ended with status {member.returncode}: {text.read()[-2000:]}")
+        return True
 
     def said(self, number, pattern):
         """When a member said what, of the lines that fit a pattern."""
@@ -96,25 +116,55 @@ def written(reader):
     return sum(reader.get_watermark_offsets(TopicPartition("out", p), 10)[1] for p in range(PARTITIONS))
 
 
-def members(library, number):
+def timed(words_for, number, threads=1, is_named=True, mebibytes=4):
+    """The records, the seconds and the processor seconds that members take for a topic of so much in each partition."""
     with tempfile.TemporaryDirectory() as folder:
         cluster = MockCluster({"in": PARTITIONS, "out": PARTITIONS})
-        count, reader = fill(cluster, 4), Consumer({"bootstrap.servers": cluster.servers, "group.id": "reader"})
-        with Group(library, cluster.servers, folder) as group:
+        count, reader = fill(cluster, mebibytes), Consumer({"bootstrap.servers": cluster.servers, "group.id": "reader"})
+        with Group(words_for(cluster.servers), folder, is_named) as group:
             for _ in range(number):
                 group.start()
-            waited(lambda: all(group.said(k, GIVEN) for k in range(number)))
-            before, begun = sum(group.processor(k) for k in range(number)), time.monotonic()
-            waited(lambda: written(reader) >= count)
-            seconds, processor = time.monotonic() - begun, sum(group.processor(k) for k in range(number)) - before
-        print(f"{number} members: {count} records in {seconds:.1f} s, {count / seconds:,.0f} records/s; "
-              f"{count / processor:,.0f} records a second of processor time", flush=True)
+            waited(lambda: all(len(group.said(k, GIVEN)) >= threads for k in range(number)))
+            before, begun, done = sum(group.processor(k) for k in range(number)), time.monotonic(), written(reader)
+            waited(lambda: group.is_alive() and written(reader) >= count)
+            return count - done, time.monotonic() - begun, sum(group.processor(k) for k in range(number)) - before
 
 
-def rest(library, partitions):
+def members(given, number):
+    count, seconds, processor = timed(lambda servers: words_of(given, servers), number, mebibytes=given.mebibytes)
+    print(f"{number} members: {count} records in {seconds:.1f} s, {count / seconds:,.0f} records/s; "
+          f"{count / processor:,.0f} records a second of processor time", flush=True)
+
+
+def built_alone(folder):
+    """Builds kafka_alone.c; the program's name."""
+    source, program = os.path.join(os.path.dirname(os.path.abspath(__file__)), "kafka_alone.c"), f"{folder}/kafka_alone"
+    subprocess.run(["cc", "-std=c11", "-D_POSIX_C_SOURCE=200809L", "-O2", source, "-lrdkafka", "-o", program], check=True)
+    return program
+
+
+def rates(given):
+    """All forms in one run, each twice."""
+    python = argparse.Namespace(library=given.library, member=None)
+    with tempfile.TemporaryDirectory() as folder:
+        alone = built_alone(folder)
+        forms = {"Python": (lambda servers: words_of(python, servers),),
+                 "C, 1 thread": (lambda servers: words_of(given, servers),),
+                 "C, 4 threads": (lambda servers: words_of(given, servers, 4), 4),
+                 "librdkafka alone": (lambda servers: [alone, servers, "g", "in", "out", "5000"], 1, False)}
+        best = {}
+        for name, (words_for, *more) in [*forms.items()] * 2:
+            turn = timed(words_for, 1, *more, mebibytes=given.mebibytes)
+            best[name] = min(best.get(name, turn), turn, key=lambda it: it[2])
+    for name, (count, seconds, processor) in best.items():
+        print(f"{name}: {count / processor:,.0f} records a second of processor time, {processor / count * 1e6:.2f} us a record; "
+              f"{count / seconds:,.0f} records a second by the clock", flush=True)
+
+
+def rest(given, partitions):
     with tempfile.TemporaryDirectory() as folder:
         cluster = MockCluster({"in": partitions, "out": partitions})
-        with Group(library, cluster.servers, folder) as group:
+        with Group(words_of(given, cluster.servers), folder) as group:
             group.start()
             waited(lambda: group.said(0, GIVEN))
             time.sleep(5)
@@ -125,12 +175,12 @@ def rest(library, partitions):
         print(f"{partitions} partitions at rest: {100 * share:.2f} in 100 of a core, {kilobytes} kB", flush=True)
 
 
-def shares(library):
+def shares(given):
     """A member joins another, leaves, joins again, and dies: when the partitions are shared anew."""
     ends = {"leaves (SIGTERM)": signal.SIGTERM, "dies (SIGKILL), session.timeout.ms=6000": signal.SIGKILL}
     with tempfile.TemporaryDirectory() as folder:
         cluster = Front(MockCluster({"in": PARTITIONS, "out": PARTITIONS}))
-        with Group(library, cluster.servers, folder, "--set-consumer", "session.timeout.ms=6000") as group:
+        with Group([*words_of(given, cluster.servers), "--set-consumer", "session.timeout.ms=6000"], folder) as group:
             group.start()
             waited(lambda: group.said(0, GIVEN))
             for what, number in ends.items():
@@ -148,11 +198,11 @@ def tell(what, group, numbers):
     print(f"a member {what}: {max(group.said(k, GIVEN)[-1][0] for k in numbers) - since:.1f} s later all is shared anew", flush=True)
 
 
-def record(library):
+def record(given):
     sys.path.insert(0, f"{TOP}/examples/library")
     from klog_engine import Engine, Program
     for name in ("forward.bin", "c/route_by_hash.bin", "c/filter_first_byte.bin"):
-        with open(f"{TOP}/examples/{name}", "rb") as file, Program(Engine(library), file.read()) as program:
+        with open(f"{TOP}/examples/{name}", "rb") as file, Program(Engine(given.library), file.read()) as program:
             turns = []
             for _ in range(20):
                 begun = time.process_time()
@@ -163,11 +213,18 @@ def record(library):
 
 
 def main():
-    tasks = {"record": record, "members": members, "rest": rest, "shares": shares}
-    if len(sys.argv) < 3 or sys.argv[2] not in tasks:
-        sys.exit(__doc__)
-    for words in [[int(word)] for word in sys.argv[3:]] or [[]]:
-        tasks[sys.argv[2]](os.path.abspath(sys.argv[1]), *words)
+    tasks = {"record": record, "rates": rates, "members": members, "rest": rest, "shares": shares}
+    words = argparse.ArgumentParser(description=__doc__, formatter_class=argparse.RawDescriptionHelpFormatter)
+    words.add_argument("library", type=os.path.abspath)
+    words.add_argument("--member", type=os.path.abspath)
+    words.add_argument("--mebibytes", type=int, default=4, choices=(1, 2, 3, 4))
+    words.add_argument("task", choices=tasks)
+    words.add_argument("numbers", nargs="*", type=int)
+    given = words.parse_args()
+    if given.task == "rates" and not given.member:
+        words.error("rates needs --member")
+    for numbers in [[number] for number in given.numbers] or [[]]:
+        tasks[given.task](given, *numbers)
 
 
 if __name__ == "__main__":

@@ -1,6 +1,6 @@
 """A Kafka cluster for tests: the mock cluster of librdkafka, and what it lacks of transactions in front of it.
 
-Not called: kafka_group_test.py and two others import it. It needs librdkafka (Debian's librdkafka1, which
+Not called: the tests and figures of Kafka import it. It needs librdkafka (Debian's librdkafka1, which
 python3-confluent-kafka needs too).
 
 The mock cluster has the protocol of records, groups and rebalances. Of transactions it has the answers alone: of

@@ -1,0 +1,345 @@
+/* A thread of a member: it polls, runs, produces and commits. */
+#include "member.h"
+#include <stdarg.h>
+#include <stdlib.h>
+#include <string.h>
+
+next_step stop(struct worker *worker, next_step step, const char *form, ...)
+{
+	if (step > worker->step) {
+		va_list words;
+		va_start(words, form);
+		vsnprintf(worker->fault, sizeof worker->fault, form, words);
+		va_end(words);
+		worker->step = step;
+	}
+	return step;
+}
+
+bool is_again(const struct worker *worker, rd_kafka_error_t **error)
+{
+	if (!*error || !rd_kafka_error_is_retriable(*error) || atomic_load(worker->is_ended))
+		return false;
+	rd_kafka_error_destroy(*error);
+	*error = NULL;
+	return true;
+}
+
+next_step after(struct worker *worker, const char *call, rd_kafka_error_t *error)
+{
+	if (!error)
+		return GO_ON;
+	next_step step = rd_kafka_error_txn_requires_abort(error) ? ABORT : END;
+	stop(worker, step, "%s: %s", call, rd_kafka_error_string(error));
+	rd_kafka_error_destroy(error);
+	return step;
+}
+
+/* The client calls this for messages that it could not deliver alone. What the cluster refuses for good would be refused
+ * again after an abort, so the process ends. */
+static void not_delivered(rd_kafka_t *producer, const rd_kafka_message_t *message, void *opaque)
+{
+	struct worker *worker = opaque;
+	switch (message->err) {
+	case RD_KAFKA_RESP_ERR_MSG_SIZE_TOO_LARGE:
+	case RD_KAFKA_RESP_ERR_INVALID_MSG_SIZE:
+	case RD_KAFKA_RESP_ERR_INVALID_RECORD:
+	case RD_KAFKA_RESP_ERR_TOPIC_AUTHORIZATION_FAILED:
+	case RD_KAFKA_RESP_ERR_UNKNOWN_TOPIC_OR_PART:
+	case RD_KAFKA_RESP_ERR_UNSUPPORTED_FOR_MESSAGE_FORMAT:
+	case RD_KAFKA_RESP_ERR__UNKNOWN_PARTITION:
+	case RD_KAFKA_RESP_ERR__UNKNOWN_TOPIC:
+		stop(worker, END, "%s %d: %s", rd_kafka_topic_name(message->rkt), message->partition,
+		     rd_kafka_err2str(message->err));
+		break;
+	default:
+		stop(worker, ABORT, "%s %d: %s", rd_kafka_topic_name(message->rkt), message->partition,
+		     rd_kafka_err2str(message->err));
+	}
+	(void)producer;
+}
+
+/* Another program's handle, if the file has another one by now. */
+static next_step take_up(struct worker *worker)
+{
+	struct image *image = worker->image;
+	if (atomic_load(&image->loads) == worker->load)
+		return GO_ON;
+	pthread_mutex_lock(&image->lock);
+	uint32_t fault = klog_share(&image->program, &worker->program);
+	if (!fault) {
+		worker->load = atomic_load(&image->loads);
+		memcpy(worker->digest, image->digest, sizeof worker->digest);
+	}
+	pthread_mutex_unlock(&image->lock);
+	return fault ? stop(worker, END, "memory ran out") : GO_ON;
+}
+
+/* Looks at a fault that a poll gave in a record's place. */
+static void note_fault(struct worker *worker, const rd_kafka_message_t *message)
+{
+	if (message->err == RD_KAFKA_RESP_ERR__MAX_POLL_EXCEEDED)
+		worker->is_revoked = true; /* the group went on without this worker; the next poll joins again */
+	else if (message->err)
+		stop(worker, END, "poll: %s", rd_kafka_message_errstr(message));
+}
+
+/* The next records. Where partitions were taken back during the poll, some may be another's by now: none of them. What is
+ * still this worker's, or is again, goes on from the committed offsets. */
+static size_t poll_records(struct worker *worker)
+{
+	const struct options *options = worker->options;
+	worker->is_given = worker->is_revoked = false;
+	ssize_t count =
+		rd_kafka_consume_batch_queue(worker->queue, options->milliseconds, worker->polled, options->records);
+	if (count < 0)
+		stop(worker, END, "poll: %s", rd_kafka_err2str(rd_kafka_last_error()));
+	for (ssize_t k = 0; k < count; k++)
+		note_fault(worker, worker->polled[k]);
+	if (worker->step == GO_ON && (worker->is_given || worker->is_revoked))
+		learn_places(worker, worker->is_revoked);
+	if (worker->step == GO_ON && !worker->is_revoked)
+		return count > 0 ? (size_t)count : 0;
+	for (ssize_t k = 0; k < count; k++)
+		rd_kafka_message_destroy(worker->polled[k]);
+	return 0;
+}
+
+static next_step commit(struct worker *worker)
+{
+	rd_kafka_error_t *error;
+	rd_kafka_topic_partition_list_t *places = offsets_after(worker);
+	rd_kafka_consumer_group_metadata_t *group = rd_kafka_consumer_group_metadata(worker->consumer);
+	do
+		error = rd_kafka_send_offsets_to_transaction(worker->producer, places, group, WAIT);
+	while (is_again(worker, &error));
+	rd_kafka_consumer_group_metadata_destroy(group);
+	rd_kafka_topic_partition_list_destroy(places);
+	if (error)
+		return after(worker, "offsets", error);
+	do
+		error = rd_kafka_commit_transaction(worker->producer, WAIT);
+	while (is_again(worker, &error));
+	return after(worker, "commit", error);
+}
+
+/* Counts a transaction that was committed. */
+static void keep_counts(struct worker *worker)
+{
+	pthread_mutex_lock(&worker->lock);
+	worker->counts.committed = 1;
+	worker->is_open = false;
+	add_counts(&worker->committed, &worker->counts);
+	for (size_t k = 0; k < worker->place_count; k++)
+		if (worker->places[k].next >= 0)
+			worker->places[k].committed = worker->places[k].next;
+	pthread_mutex_unlock(&worker->lock);
+}
+
+/* Discards what the transaction produced. */
+static void abort_open(struct worker *worker, int milliseconds)
+{
+	rd_kafka_error_t *error;
+	do
+		error = rd_kafka_abort_transaction(worker->producer, milliseconds);
+	while (is_again(worker, &error));
+	worker->is_open = false;
+	if (!error)
+		return;
+	stop(worker, END, "abort: %s", rd_kafka_error_string(error));
+	rd_kafka_error_destroy(error);
+}
+
+/* Discards what the transaction produced, and goes back: its records are polled again. */
+static next_step begin_anew(struct worker *worker)
+{
+	say(worker, "transaction aborted: %s", worker->fault);
+	abort_open(worker, WAIT);
+	if (worker->step == END)
+		return END;
+	worker->step = GO_ON;
+	pthread_mutex_lock(&worker->lock);
+	worker->committed.aborted++;
+	pthread_mutex_unlock(&worker->lock);
+	return learn_places(worker, true);
+}
+
+/* Runs the program on what was polled: its outputs and the offsets after it are committed together or not. */
+static next_step transact(struct worker *worker, size_t count)
+{
+	worker->counts = (struct counts){0};
+	for (size_t k = 0; k < worker->place_count; k++)
+		worker->places[k].next = -1;
+	next_step step = after(worker, "begin", rd_kafka_begin_transaction(worker->producer));
+	worker->is_open = step == GO_ON;
+	for (size_t k = 0; k < count && step == GO_ON; k++)
+		step = run_on(worker, worker->polled[k]);
+	if (step == GO_ON)
+		step = commit(worker);
+	if (step == GO_ON)
+		keep_counts(worker);
+	return worker->step == ABORT ? begin_anew(worker) : worker->step;
+}
+
+void *run_worker(void *opaque)
+{
+	struct worker *worker = opaque;
+	rd_kafka_error_t *error;
+	do
+		error = rd_kafka_init_transactions(worker->producer, WAIT);
+	while (is_again(worker, &error));
+	next_step step = after(worker, "init", error);
+	while (step == GO_ON && !atomic_load(worker->is_ended)) {
+		step = take_up(worker);
+		size_t count = step == GO_ON ? poll_records(worker) : 0;
+		if (count)
+			step = transact(worker, count);
+		for (size_t k = 0; k < count; k++)
+			rd_kafka_message_destroy(worker->polled[k]);
+		if (worker->step != GO_ON)
+			step = worker->step;
+	}
+	if (step != GO_ON) {
+		say(worker, "ended: %s", worker->fault);
+		worker->is_failed = true;
+		atomic_store(worker->is_ended, true);
+		if (worker->is_open)
+			abort_open(worker, LAST_WAIT);
+	}
+	rd_kafka_resp_err_t fault = rd_kafka_consumer_close(worker->consumer);
+	if (fault)
+		say(worker, "leaving the group: %s", rd_kafka_err2str(fault));
+	return NULL;
+}
+
+static bool set(struct worker *worker, rd_kafka_conf_t *settings, const char *key, const char *value)
+{
+	char text[TEXT - 64];
+	if (rd_kafka_conf_set(settings, key, value, text, sizeof text) == RD_KAFKA_CONF_OK)
+		return true;
+	stop(worker, END, "setting %s: %s", key, text);
+	return false;
+}
+
+/* The settings of a client: its own, and those of the command line. */
+static bool set_all(struct worker *worker, rd_kafka_conf_t *settings, enum client client, const char *const own[][2])
+{
+	const struct options *options = worker->options;
+	bool is_set = set(worker, settings, "bootstrap.servers", options->servers);
+	for (size_t k = 0; own[k][0] && is_set; k++)
+		is_set = set(worker, settings, own[k][0], own[k][1]);
+	for (size_t k = 0; k < options->setting_count && is_set; k++)
+		if (options->settings[k].client & client)
+			is_set = set(worker, settings, options->settings[k].key, options->settings[k].value);
+	return is_set;
+}
+
+/* A client of these settings, which are freed. */
+static rd_kafka_t *client_of(struct worker *worker, rd_kafka_type_t type, rd_kafka_conf_t *settings, bool is_set)
+{
+	char text[TEXT - 64];
+	rd_kafka_t *client = is_set ? rd_kafka_new(type, settings, text, sizeof text) : NULL;
+	if (!client) {
+		rd_kafka_conf_destroy(settings);
+		stop(worker, END, "client: %s", text);
+	}
+	return client;
+}
+
+static bool open_consumer(struct worker *worker)
+{
+	const char *const own[][2] = {{"group.id", worker->options->group}, {"auto.offset.reset", "earliest"},
+				      {"enable.auto.commit", "false"}, {"enable.auto.offset.store", "false"},
+				      {"isolation.level", "read_committed"}, {NULL, NULL}};
+	rd_kafka_conf_t *settings = rd_kafka_conf_new();
+	rd_kafka_conf_set_opaque(settings, worker);
+	rd_kafka_conf_set_rebalance_cb(settings, shared_anew);
+	bool is_set = set_all(worker, settings, CONSUMER, own);
+	worker->consumer = client_of(worker, RD_KAFKA_CONSUMER, settings, is_set);
+	if (!worker->consumer)
+		return false;
+	worker->queue = rd_kafka_queue_get_consumer(worker->consumer);
+	rd_kafka_topic_partition_list_t *topics = rd_kafka_topic_partition_list_new(1);
+	rd_kafka_topic_partition_list_add(topics, worker->options->input, RD_KAFKA_PARTITION_UA);
+	rd_kafka_resp_err_t fault = rd_kafka_subscribe(worker->consumer, topics);
+	rd_kafka_topic_partition_list_destroy(topics);
+	if (fault)
+		stop(worker, END, "%s: %s", worker->options->input, rd_kafka_err2str(fault));
+	return !fault;
+}
+
+static bool open_producer(struct worker *worker)
+{
+	char name[TEXT], longest[24];
+	size_t length = sizeof longest;
+	snprintf(name, sizeof name, "%s-%s-%zu", worker->options->group, worker->options->name, worker->number);
+	const char *const own[][2] = {{"transactional.id", name}, {"linger.ms", "20"},
+				      {"delivery.report.only.error", "true"}, {NULL, NULL}};
+	rd_kafka_conf_t *settings = rd_kafka_conf_new();
+	rd_kafka_conf_set_opaque(settings, worker);
+	rd_kafka_conf_set_dr_msg_cb(settings, not_delivered);
+	bool is_set = set_all(worker, settings, PRODUCER, own);
+	if (is_set && rd_kafka_conf_get(settings, "message.max.bytes", longest, &length) == RD_KAFKA_CONF_OK)
+		worker->longest_message = strtoul(longest, NULL, 10);
+	worker->producer = client_of(worker, RD_KAFKA_PRODUCER, settings, is_set);
+	return worker->producer != NULL;
+}
+
+static bool open_topic(struct worker *worker, const char *name, rd_kafka_topic_t **topic)
+{
+	*topic = rd_kafka_topic_new(worker->producer, name, NULL);
+	if (!*topic)
+		stop(worker, END, "%s: %s", name, rd_kafka_err2str(rd_kafka_last_error()));
+	return *topic != NULL;
+}
+
+/* Makes the handles of the topics. The first worker looks whether they fit each other. */
+static bool open_topics(struct worker *worker)
+{
+	const struct options *options = worker->options;
+	int32_t wanted, found;
+	if (!count_partitions(worker, options->input, 0, &wanted))
+		return false;
+	for (size_t k = 0; k < options->output_count; k++)
+		if (!open_topic(worker, options->outputs[k], &worker->outputs[k]) ||
+		    (worker->number == 0 && !count_partitions(worker, options->outputs[k], wanted, &found)))
+			return false;
+	return !options->dead || (open_topic(worker, options->dead, &worker->dead) &&
+				  count_partitions(worker, options->dead, 0, &worker->dead_partitions));
+}
+
+bool open_worker(struct worker *worker)
+{
+	pthread_mutex_init(&worker->lock, NULL);
+	worker->polled = calloc(worker->options->records, sizeof *worker->polled);
+	worker->key = malloc(MOST_KEY);
+	worker->value = malloc(MOST_VALUE);
+	if (!worker->polled || !worker->key || !worker->value)
+		stop(worker, END, "memory ran out");
+	else if (open_producer(worker) && open_topics(worker) && open_consumer(worker))
+		return true;
+	say(worker, "ended: %s", worker->fault);
+	return false;
+}
+
+void close_worker(struct worker *worker)
+{
+	for (size_t k = 0; k < worker->options->output_count; k++)
+		if (worker->outputs[k])
+			rd_kafka_topic_destroy(worker->outputs[k]);
+	if (worker->dead)
+		rd_kafka_topic_destroy(worker->dead);
+	if (worker->queue)
+		rd_kafka_queue_destroy(worker->queue);
+	if (worker->consumer)
+		rd_kafka_destroy(worker->consumer);
+	if (worker->producer)
+		rd_kafka_destroy(worker->producer);
+	klog_free(&worker->outcome);
+	klog_free(&worker->headers);
+	klog_free(&worker->program);
+	free(worker->places);
+	free(worker->polled);
+	free(worker->key);
+	free(worker->value);
+}
