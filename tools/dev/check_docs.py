@@ -7,7 +7,7 @@ In README.md and docs/*.md a block of code whose first line begins with `$ ` is 
 and what follows it is what the command prints, errors too. A block under `<!-- file: NAME -->` is a file. A block under
 `<!-- not run -->` is left out. What is between `<!-- printed by COMMAND -->` and `<!-- end -->` is what that command prints.
 The files and commands of a page are made and run in their order, in a folder of its own that has the repository's `examples`
-and `tools`, with klog and the tools on the path, and klog.h where clang looks. A file that a page makes is the one of the same name
+and `tools`, with klog and klogc on the path, and in EXAMPLES the folder of the examples. A file that a page makes is the one of the same name
 in docs/pictures, if that has one. Needs bash, clang 14 and xxd.
 """
 import os
@@ -77,7 +77,7 @@ def main():
             (programs / "klog").symlink_to(Path(sys.argv[1]).resolve())
             for name in ("examples", "tools"):
                 (room / name).symlink_to(TOP / name)
-            environment = {**os.environ, "PATH": f"{programs}:{TOP / 'tools'}:{os.environ['PATH']}", "CPATH": str(TOP / "examples" / "c")}
+            environment = {**os.environ, "PATH": f"{programs}:{TOP / 'tools' / 'klogc'}:{os.environ['PATH']}", "EXAMPLES": str(TOP / "examples")}
             count, wrong = run_page(path, room, environment)
         total, failed = total + count, failed + len(wrong)
         for what, expected, printed in wrong:

@@ -1,10 +1,13 @@
-/* Calls each function of the C library in random order, from several threads that share one program, with random,
- * damaged and huge images, records, headers and record batches, short buffers, null pointers and handles of every kind.
+/* Calls each function of the C library in random order, from several threads that share one program and read one handle
+ * of each kind, with random, damaged and huge images, records, headers and record batches, short buffers, null pointers
+ * and handles of every kind.
  *	library_driver SECONDS THREADS SEED IMAGE ..
  * It fails where a fault is none of the function's, where a fault changes a handle or a buffer, or where the first
  * image, which forwards each record to output 0, gives another record or batch than it was given. A sanitizer finds the rest:
  *	cc -std=c99 -D_POSIX_C_SOURCE=200809L -g -fsanitize=address,undefined -fno-sanitize-recover -pthread -IFOLDER \
- *		tools/dev/library_driver.c FOLDER/libklog.a -o library_driver */
+ *		tools/dev/library_driver.c FOLDER/libklog.a -o library_driver
+ * With -fsanitize=thread in its place the sanitizer sees the driver and include/klog_engine.c, if that is compiled with
+ * it; the archive's own code it sees only where that calls malloc, realloc and free. */
 #include "klog_engine.h"
 
 #include <pthread.h>
@@ -44,9 +47,12 @@ struct worker {
 static struct image images[IMAGES];
 static size_t image_count;
 static time_t end;
-/* The program that all threads share; its handle is given to one call at a time. */
-static klog_handle shared;
-static pthread_mutex_t lock = PTHREAD_MUTEX_INITIALIZER;
+/* What all threads read at the same time: a program, headers, and what the program makes of a record with these, of a
+ * batch, and a text. */
+static klog_handle shared, shared_headers, shared_outcome, shared_batches, shared_text;
+/* What a thread finds there. */
+static klog_output shared_told;
+static uint8_t shared_value[] = "a value that all threads read";
 
 static void fail(const char *what, uint32_t number)
 {
@@ -165,14 +171,7 @@ static void share(struct worker *w)
 {
 	klog_handle *from = handle(w, PROGRAMS), *to = handle(w, PROGRAMS);
 	klog_handle before = to ? *to : (klog_handle)KLOG_NOTHING;
-	uint32_t fault;
-	if (one_in(w, 2)) {
-		pthread_mutex_lock(&lock);
-		fault = klog_share(&shared, to);
-		pthread_mutex_unlock(&lock);
-	} else {
-		fault = klog_share(from, to);
-	}
+	uint32_t fault = klog_share(one_in(w, 2) ? &shared : from, to);
 	look("share", fault, &before, to);
 	if (fault > KLOG_KIND && fault != KLOG_NULL)
 		fail("share", fault);
@@ -288,7 +287,7 @@ static void run(struct worker *w)
 /* What is copied of an emission. */
 enum part { KEY, VALUE, HEADER_KEY, HEADER_VALUE };
 
-static uint32_t copied(klog_handle *outcome, size_t at, size_t header, enum part part, uint8_t *buffer, size_t room)
+static uint32_t copied(const klog_handle *outcome, size_t at, size_t header, enum part part, uint8_t *buffer, size_t room)
 {
 	switch (part) {
 	case KEY:
@@ -302,7 +301,7 @@ static uint32_t copied(klog_handle *outcome, size_t at, size_t header, enum part
 	}
 }
 
-static void copy(struct worker *w, klog_handle *outcome, size_t at, size_t header, enum part part, size_t length)
+static void copy(struct worker *w, const klog_handle *outcome, size_t at, size_t header, enum part part, size_t length)
 {
 	size_t room = one_in(w, 2) ? length : length_below(w, 70000);
 	uint8_t *buffer = block(w, room), *before = block(w, room);
@@ -317,7 +316,7 @@ static void copy(struct worker *w, klog_handle *outcome, size_t at, size_t heade
 	free(before);
 }
 
-static void emitted_header(struct worker *w, klog_handle *outcome, size_t at, size_t count)
+static void emitted_header(struct worker *w, const klog_handle *outcome, size_t at, size_t count)
 {
 	klog_header told = {0};
 	size_t header = one_in(w, 4) ? (size_t)number(w) : below(w, count + 1);
@@ -676,11 +675,114 @@ static void forward(struct worker *w)
 	free((void *)r.value);
 }
 
+/* The record that all threads run. */
+static klog_record shared_record(void)
+{
+	klog_record r = {0};
+	r.value = shared_value;
+	r.value_length = sizeof shared_value;
+	r.outputs = 1;
+	r.headers = &shared_headers;
+	return r;
+}
+
+/* Reads the handles that all threads share, each by each call that reads such a one. */
+static void read_shared(struct worker *w)
+{
+	klog_record r = shared_record();
+	uint64_t code;
+	size_t count, length;
+	klog_emission emission;
+	klog_header header;
+	klog_counts counts;
+	klog_reject reject;
+	klog_output told;
+	uint8_t value[sizeof shared_value], byte;
+	uint32_t fault = klog_run(&shared, &r, &w->outcome);
+	if (!fault)
+		fault = klog_outcome(&shared_outcome, &code, &count);
+	if (!fault)
+		fault = klog_emission_at(&shared_outcome, 0, &emission);
+	if (!fault)
+		fault = klog_emission_value(&shared_outcome, 0, value, sizeof value);
+	if (!fault)
+		fault = klog_emission_header(&shared_outcome, 0, 0, &header);
+	if (!fault)
+		fault = klog_emission_header_key(&shared_outcome, 0, 0, &byte, 1);
+	if (!fault)
+		fault = klog_emission_header_value(&shared_outcome, 0, 0, &byte, 1);
+	if (fault || code || count != 1 || emission.key_length || emission.value_length != sizeof value ||
+	    header.key_length != 1 || header.value_length != 1 || byte != 'v' ||
+	    memcmp(value, shared_value, sizeof value) || klog_emission_key(&shared_outcome, 0, &byte, 1))
+		fail("read_shared's outcome", fault);
+	fault = klog_counts_of(&shared_batches, &counts);
+	if (!fault)
+		fault = klog_output_at(&shared_batches, 0, &told);
+	if (fault || memcmp(&told, &shared_told, sizeof told) || counts.records != told.rows ||
+	    klog_reject_at(&shared_batches, 0, &reject) != KLOG_RANGE)
+		fail("read_shared's batches", fault);
+	uint8_t *bytes = block(w, told.length);
+	fault = klog_output_batches(&shared_batches, 0, bytes, told.length);
+	if (fault || batch_count(bytes, told.length) != told.batches)
+		fail("read_shared's bytes", fault);
+	free(bytes);
+	fault = klog_text(&shared_text, NULL, 0, &length);
+	if (fault != KLOG_ROOM || !length)
+		fail("read_shared's text", fault);
+}
+
+/* Rows take as many bytes as the limit, or one more. */
+static void transform_within(struct worker *w)
+{
+	uint8_t *room = block(w, 61 + 50 * 150), *end = put_batch(w, room, 0, 1 + below(w, 50), 80);
+	size_t length = (size_t)(end - room);
+	klog_source source = {below(w, 1ull << 61), below(w, 64), 1 + below(w, 64)};
+	klog_stop stop;
+	klog_handle before = w->batches;
+	uint32_t fault = klog_transform_within(&shared, &source, room, length, length - 1, &w->batches, &stop);
+	look("transform_within", fault, &before, &w->batches);
+	if (fault != KLOG_LIMIT || stop.batch != 1 || stop.byte != length)
+		fail("transform_within's limit", fault);
+	fault = klog_transform_within(&shared, &source, room, length, length, &w->batches, &stop);
+	if (fault)
+		fail("transform_within", fault);
+	free(room);
+}
+
+/* Fills what all threads read. */
+static void make_shared(struct worker *w)
+{
+	uint8_t *room = block(w, 61 + 50 * 150), *end = put_batch(w, room, 0, 50, 80);
+	size_t place;
+	klog_source source = {0, 0, 1};
+	klog_stop stop;
+	if (klog_load(images[0].bytes, images[0].length, KLOG_TABLE_ONE, &shared, &place) ||
+	    klog_add_header(&shared_headers, (const uint8_t *)"k", 1, (const uint8_t *)"v", 1))
+		fail("start", 0);
+	klog_record r = shared_record();
+	if (klog_run(&shared, &r, &shared_outcome) ||
+	    klog_transform(&shared, &source, room, (size_t)(end - room), &shared_batches, &stop) ||
+	    klog_output_at(&shared_batches, 0, &shared_told) ||
+	    klog_explain(images[0].bytes, images[0].length, KLOG_TABLE_ONE, 0, &shared_text))
+		fail("make_shared", 0);
+	free(room);
+}
+
+static void free_shared(void)
+{
+	klog_free(&shared);
+	klog_free(&shared_headers);
+	klog_free(&shared_outcome);
+	klog_free(&shared_batches);
+	klog_free(&shared_text);
+}
+
 static void *work(void *at)
 {
 	static void (*const calls[])(struct worker *) = {load, load, load, fault_text, share, explain,
 							 add_header, add_header, run, run, run, emissions, emissions,
-							 forward, transform, transform, outputs, forward_batch};
+							 forward, transform, transform, outputs, forward_batch, read_shared,
+							 transform_within};
 	struct worker *w = at;
 	while (time(NULL) < end) {
 		calls[below(w, sizeof calls / sizeof calls[0])](w);
@@ -719,17 +821,18 @@ int main(int argc, char **argv)
 		return 2;
 	}
 	static struct worker workers[MOST_THREADS];
-	size_t threads = strtoul(argv[2], NULL, 10), place;
+	size_t threads = strtoul(argv[2], NULL, 10);
 	unsigned long calls = 0, runs = 0, transforms = 0, headers = 0;
 	make_crc_table();
 	for (int k = 4; k < argc; k++)
 		read_image(argv[k]);
-	if (threads < 1 || threads > MOST_THREADS ||
-	    klog_load(images[0].bytes, images[0].length, KLOG_TABLE_ONE, &shared, &place))
+	if (threads < 1 || threads > MOST_THREADS)
 		fail("start", 0);
+	for (size_t k = 0; k < threads; k++)
+		workers[k].state = strtoul(argv[3], NULL, 10) * 64 + k + 88172645463325252ull;
+	make_shared(&workers[0]);
 	end = time(NULL) + (time_t)strtoul(argv[1], NULL, 10);
 	for (size_t k = 0; k < threads; k++) {
-		workers[k].state = strtoul(argv[3], NULL, 10) * 64 + k + 88172645463325252ull;
 		if (klog_share(&shared, &workers[k].forward))
 			fail("share", 0);
 		if (pthread_create(&workers[k].thread, NULL, work, &workers[k]))
@@ -742,7 +845,7 @@ int main(int argc, char **argv)
 		transforms += workers[k].transforms;
 		headers += workers[k].headers;
 	}
-	klog_free(&shared);
+	free_shared();
 	for (size_t k = 0; k < image_count; k++)
 		free(images[k].bytes);
 	printf("%lu calls, %lu of them runs, %lu transforms and %lu added headers, no fault\n", calls, runs, transforms,
