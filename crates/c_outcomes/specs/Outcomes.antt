@@ -6,7 +6,7 @@ use Rattle.wire_spec.specs.declared.record.Header.{Header}
 use Rattle.machine_spec.specs.{declared.outcome.Outcome.Outcome, declared.outcome.Emission.Emission, Machine.bytes_of}
 use Rattle.machine_spec.specs.declared.outcome.Outcome.TheVariants.{Kept, Rejected}
 use Rattle.c_outcomes.specs.declared.numbers.TheConstants.{RANGE, ROOM}
-use Rattle.c_outcomes.specs.declared.{emissions.Emitted.Emitted, headers.HeaderTold.HeaderTold}
+use Rattle.c_outcomes.specs.declared.{emissions.EmissionTold.EmissionTold, headers.HeaderTold.HeaderTold}
 
 -- the reject code, 0 where the record is kept
 abbrev pub code_of : Outcome → ℕ
@@ -28,7 +28,7 @@ nulls_of key value = (if is_none key then 1 else 0) + (if is_none value then 2 e
 
 -- what is reported of an emission: its output partition, the lengths of its key and value, which of them are null, and
 -- how many headers it has
-abbrev pub description_of : Emission → Emitted
+abbrev pub description_of : Emission → EmissionTold
 description_of emission = record {
   output = emission.out;
   key_length = length_of emission.key;

@@ -12,7 +12,7 @@ use machine_spec::{Emission, Outcome};
 /// What is emitted to an output partition: how long it is, and which parts of it are null.
 #[repr(C)]
 #[derive(Clone, Copy)]
-pub struct Emitted {
+pub struct EmissionTold {
     /// The output partition.
     pub output: usize,
     /// The key's length in bytes, 0 for null.
@@ -54,11 +54,11 @@ fn nulls_of(key: &Option<Bytes>, value: &Option<Bytes>) -> u32
     first + second
 }
 
-impl Telling<Emission> for Emitted {
+impl Telling<Emission> for EmissionTold {
     ghost told_of = { definitions.description_of };
 
-    fn told_of(emission: &Emission) -> Emitted {
-        Emitted {
+    fn told_of(emission: &Emission) -> EmissionTold {
+        EmissionTold {
             output: emission.out,
             key_length: part_bytes(&emission.key).len(),
             value_length: part_bytes(&emission.value).len(),

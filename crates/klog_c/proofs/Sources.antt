@@ -8,10 +8,10 @@ use Rattle.transform.specs.Transformed.{IsTransformed, TransformsBatches, size_o
 use Rattle.transform.specs.declared.memory.Stop.TheVariants as stop
 use Rattle.klog_c.specs.{Numbers.stop_number, Numbers.stop_record, Calls.Fills}
 use Rattle.klog_c.specs.Batches.{is_source, origin_of, stopped_at, TransformsSource, TransformsIf, Transforms}
-use Rattle.klog_c.specs.declared.{object.Object.Object, transforming.Source.Source, transforming.Stopped.Stopped}
+use Rattle.klog_c.specs.declared.{object.Object.Object, transforming.BatchSource.BatchSource, transforming.Stopped.Stopped}
 use Rattle.klog_c.specs.declared.object.Object.TheVariants as object
 
-module _ (program : Program) (source : Source) (bytes : List ℕ) (before : Option Object) (place : BatchPlace) where
+module _ (program : Program) (source : BatchSource) (bytes : List ℕ) (before : Option Object) (place : BatchPlace) where
   stopped_by : (why : Stop) → why ≢ stop.Memory →
       TransformsBatches program (origin_of source) bytes source.limit (Err why) place →
       TransformsSource program source bytes before before (stopped_at place why) (stop_number why)

@@ -11,7 +11,7 @@ use Rattle.klog_c.specs.{Numbers.stop_number, Numbers.stop_record, Calls.Fails, 
 use Rattle.klog_c.specs.declared.faults.TheConstants.{MEMORY, KIND}
 use Rattle.c_outcomes.specs.{declared.numbers.TheConstants.RANGE, Outcomes.item_at, Outcomes.part_at}
 use Rattle.c_outcomes.specs.Outcomes.{TellsOf, CopiesFound}
-use Rattle.klog_c.specs.declared.{object.Object.Object, transforming.Source.Source, transforming.Stopped.Stopped}
+use Rattle.klog_c.specs.declared.{object.Object.Object, transforming.BatchSource.BatchSource, transforming.Stopped.Stopped}
 use Rattle.klog_c.specs.declared.{outputs.Counted.Counted, outputs.Reject.Reject, outputs.OutputTold.OutputTold}
 use Rattle.klog_c.specs.declared.object.Object.TheVariants as object
 
@@ -27,12 +27,12 @@ batches_in None = Err KIND
 -- ---- a transform
 
 -- a place in the ranges of a broker's; the first record may have the offset 2^62, which is past the last
-abbrev pub is_source : Source → Bool
+abbrev pub is_source : BatchSource → Bool
 is_source source = nat_lt source.partition 64 && nat_le source.offset TIMESTAMP_END && nat_le 1 source.outputs
     && nat_le source.outputs 64
 
 -- the input partition of a source, the offset of its first record, and how many output partitions there are
-abbrev pub origin_of : Source → Origin
+abbrev pub origin_of : BatchSource → Origin
 origin_of source = record { input = source.partition; offset = source.offset; outputs = source.outputs }
 
 -- how many whole batches are before the place where a transform stopped, and how many bytes they have
@@ -46,7 +46,7 @@ stopped_at place stop = record { batch = place.batch; byte = place.byte; place =
 
 -- The bytes begin with whole batches up to a place, and the number says why the next one is not transformed, or that
 -- these pass the limit.
-pub record IsStop (program : Program) (source : Source) (bytes : List ℕ) (stopped : Stopped) (number : ℕ) : Type 0 where
+pub record IsStop (program : Program) (source : BatchSource) (bytes : List ℕ) (stopped : Stopped) (number : ℕ) : Type 0 where
   pub batches : List Batch
   pub rest : List ℕ
   pub why : Stop
@@ -57,20 +57,20 @@ pub record IsStop (program : Program) (source : Source) (bytes : List ℕ) (stop
 
 -- The bytes are all batches, and the handle is filled with what the program makes of them, which takes at most as many
 -- bytes as the limit; or memory ran out, or the next batch is not transformed, or the limit is passed.
-abbrev pub TransformsSource : Program → Source → List ℕ → Option Object → Option Object → Stopped → ℕ → Type 0
+abbrev pub TransformsSource : Program → BatchSource → List ℕ → Option Object → Option Object → Stopped → ℕ → Type 0
 TransformsSource program source bytes before after stopped number =
     ((made : Transformed) × IsTransformed program (origin_of source) bytes made × (size_of made ≤ source.limit)
     × Fills (object.Batches made) before after number)
     ⊎ Fails MEMORY before after number ⊎ ((after ≡ before) × IsStop program source bytes stopped number)
 
 -- the same where the numbers of the source are in range
-abbrev pub TransformsIf : Bool → Program → Source → List ℕ → Option Object → Option Object → Stopped → ℕ → Type 0
+abbrev pub TransformsIf : Bool → Program → BatchSource → List ℕ → Option Object → Option Object → Stopped → ℕ → Type 0
 TransformsIf false program source bytes before after stopped number = Fails RANGE before after number
 TransformsIf true program source bytes before after stopped number =
     TransformsSource program source bytes before after stopped number
 
 -- the same, where there may be no program, or a number of the source is out of its range
-abbrev pub Transforms : Result Program ℕ → Source → List ℕ → Option Object → Option Object → Stopped → ℕ → Type 0
+abbrev pub Transforms : Result Program ℕ → BatchSource → List ℕ → Option Object → Option Object → Stopped → ℕ → Type 0
 Transforms (Err fault) source bytes before after stopped number = Fails fault before after number
 Transforms (Ok program) source bytes before after stopped number =
     TransformsIf (is_source source) program source bytes before after stopped number

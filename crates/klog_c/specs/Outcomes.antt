@@ -4,7 +4,7 @@ use Rattle.wire_spec.specs.declared.record.Header.{Header}
 use Rattle.machine_spec.specs.{declared.outcome.Outcome.Outcome, declared.outcome.Emission.Emission, Machine.bytes_of}
 use Rattle.c_outcomes.specs.Outcomes.{code_of, emissions_of, description_of, header_told, emission_at, header_at}
 use Rattle.c_outcomes.specs.Outcomes.{part_at, TellsOf, CopiesFound}
-use Rattle.c_outcomes.specs.declared.{emissions.Emitted.Emitted, headers.HeaderTold.HeaderTold}
+use Rattle.c_outcomes.specs.declared.{emissions.EmissionTold.EmissionTold, headers.HeaderTold.HeaderTold}
 
 -- the reject code and the number of emissions of an outcome that was found
 abbrev pub Tells : Result Outcome ℕ → ℕ → ℕ → ℕ → Type 0
@@ -13,7 +13,7 @@ Tells (Ok outcome) code count number =
     (number ≡ 0) × (code ≡ code_of outcome) × (count ≡ length (emissions_of outcome))
 
 -- what is reported of an emission, by its number
-abbrev pub TellsAt : Result Outcome ℕ → ℕ → Emitted → ℕ → Type 0
+abbrev pub TellsAt : Result Outcome ℕ → ℕ → EmissionTold → ℕ → Type 0
 TellsAt outcome at told number = TellsOf description_of (emission_at outcome at) told number
 
 -- a part of an emission, by its number; a null part has no bytes

@@ -7,7 +7,7 @@ ghost use Rattle.klog_c.specs.Calls.{program_in};
 use crate::handle::Handle;
 use crate::object::{batches_of, program_of};
 use crate::outputs::{Counted, OutputTold, Reject, output_at, output_bytes, reject_at};
-use crate::transforming::{Source, Stopped, transform_into};
+use crate::transforming::{BatchSource, Stopped, transform_into};
 use c_outcomes::{copy_found, tell};
 use std::alloc::Global;
 
@@ -17,7 +17,7 @@ use std::alloc::Global;
 pub extern "C" fn klog_c_transform(
     alloc: Global,
     program: &mut Handle,
-    source: &Source,
+    source: &BatchSource,
     bytes: &[u8],
     batches: &mut Handle,
     stopped: &mut Stopped,

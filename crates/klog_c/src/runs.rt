@@ -12,7 +12,7 @@ use crate::object::{outcome_of, program_of};
 use crate::running::{Asked, given_record, place_of};
 use crate::working::run_into;
 use c_outcomes::{
-    Emitted, HeaderTold, OK, code_of, copy_found, emission_at, emissions_of, header_at,
+    EmissionTold, HeaderTold, OK, code_of, copy_found, emission_at, emissions_of, header_at,
     header_key_at, header_value_at, key_at, tell, value_at,
 };
 use machine_spec::Outcome;
@@ -100,7 +100,7 @@ pub extern "C" fn klog_c_emission(
     alloc: Global,
     outcome: &mut Handle,
     at: usize,
-    emission: &mut Emitted,
+    emission: &mut EmissionTold,
 ) -> u32
     ensures outcome { outcome.new.place.object ≡ outcome.old.place.object }
     ensures told { TellsAt (outcome_in outcome.old.place.object) at emission.new result }

@@ -18,7 +18,7 @@ use wire_spec::TIMESTAMP_END;
 /// Where record batches are, how many output partitions there are, and how many bytes their batches may take.
 #[repr(C)]
 #[derive(Clone, Copy)]
-pub struct Source {
+pub struct BatchSource {
     /// The first record's offset in its input partition, at most 2^62.
     pub offset: u64,
     /// The input partition, below 64.
@@ -41,7 +41,7 @@ pub struct Stopped {
     pub place: u32,
 }
 
-fn is_source(source: &Source) -> bool
+fn is_source(source: &BatchSource) -> bool
     ensures { result ≡ definitions.is_source source.now }
 {
     source.partition < 64
@@ -55,7 +55,7 @@ fn is_source(source: &Source) -> bool
 fn transform_program(
     alloc: Global,
     program: &Program,
-    source: &Source,
+    source: &BatchSource,
     bytes: &[u8],
     batches: &mut Handle,
     stopped: &mut Stopped,
@@ -89,7 +89,7 @@ fn transform_program(
 pub(crate) fn transform_into(
     alloc: Global,
     program: Result<&Shared, u32>,
-    source: &Source,
+    source: &BatchSource,
     bytes: &[u8],
     batches: &mut Handle,
     stopped: &mut Stopped,
