@@ -1,11 +1,11 @@
 -- Some records of a batch after others.
-use Rattle.std.proofs.Common.{◌≡◌, ℕ, zero, suc, ◌+◌, ◌-◌, ◌<◌, ◌≤◌, List, [], ◌∷◌, ◌++◌, length, take, drop, get_or}
+use Rattle.std.proofs.Common.{◌≡◌, ℕ, zero, suc, ◌+◌, ◌<◌, ◌≤◌, List, [], ◌∷◌, ◌++◌, length, take, drop, get_or}
 use Rattle.std.proofs.Common.{slice_get, map, Option, Some, option_map, refl, sym, ap, subst, ◌∙◌, append_assoc, arith}
 use Rattle.std.proofs.Common.{Result, Ok, Err, OnOk}
 use Rattle.std.specs.List.{AllByRecursion}
 use Rattle.std.proofs.lemmas.Option.{same_Some}
 use Rattle.std.proofs.lemmas.List.{length-append, length-take, length-drop, append-nil, get_or_default, get_or-drop}
-use Rattle.std.proofs.lemmas.List.{get_or-take, length-take-le, drop-drop, drop_at, take_at, take-append-drop}
+use Rattle.std.proofs.lemmas.List.{get_or-take, length-take-le, take_at, take-append-drop}
 use Rattle.wire_spec.specs.declared.{limits.TheConstants.TIMESTAMP_END, record.Record.Record, record.Batch.Batch}
 use Rattle.machine_spec.specs.declared.{outcome.Outcome.Outcome, outcome.Place.Place}
 use Rattle.machine_spec.specs.{Image.Program, Meaning.IsPlace}
@@ -23,8 +23,7 @@ use Rattle.fates.specs.Fates.{fate_of, IsFate, AreRecordsFates}
 use Rattle.fates.proofs.FateLaws.{fates-next}
 use Rattle.item_rows.specs.{declared.origin.Origin.Origin, declared.batch_run.BatchRun.BatchRun, ItemRows.IsOrigin}
 use Rattle.item_rows.specs.ItemRows.{Adds}
-use Rattle.item_rows.specs.Blocks.{places_from, records_from, rows_of_each, AreFatesMore, program_in, StandFrom, CanRun}
-use Rattle.item_rows.specs.Blocks.{HaveRun}
+use Rattle.item_rows.specs.Blocks.{places_from, records_from, rows_of_each, AreFatesMore, program_in, CanRun, HaveRun}
 use Rattle.item_rows.proofs.RowLaws.{adds_none, adds_then, adds_as, each_at}
 
 -- ---- fates that are counted
@@ -336,21 +335,6 @@ all_later P (x ∷ xs) ys all = all_later P xs ys all.1
 
 -- ---- records that are left, and calls that may fail
 
--- the records after some of those that stand from a number on
-pub stand_later : (all : List Record) (base first at : ℕ) (records done rest : List Record) → base ≤ first →
-    StandFrom all (first - base) records → done ++ rest ≡ records → at ≡ first + length done →
-    StandFrom all (at - base) rest
-stand_later all base first at records done rest le stand parts here =
-    let from : at - base ≡ (first - base) + length done = omega (arith, le, here) in
-    let both : records ++ stand.after ≡ done ++ (rest ++ stand.after) =
-    ap (λ (gs : List Record). gs ++ stand.after) (sym parts) ∙ append_assoc done rest stand.after in
-    record {
-      after = stand.after;
-      are = ap (λ (n : ℕ). drop n all) from
-          ∙ (sym (drop-drop (length done) (first - base) all)
-          ∙ (ap (drop (length done)) (stand.are ∙ both) ∙ drop_at done (rest ++ stand.after) (length done) refl));
-    }
-
 -- one of so many records from a number on
 pub between_at : (all : List Record) (from count k : ℕ) (g : Record) → k < count → from + count ≤ length all →
     g ≡ get_or all (from + k) no_record → g ≡ get_or (records_from from count all) k g
@@ -374,9 +358,6 @@ can_run_rest run first at records done rest old new were are can parts here made
     let both = length-append done rest in let whole = ap length parts in let counted =
     run_counted run first done old new were are made in
     record {
-      from = omega (arith, can.from, here);
-      stand = stand_later run.batch.now.records run.origin.now.offset first at records done rest can.from can.stand
-          parts here;
       origin = can.origin;
       fits = all_later (FitsRecord run.batch.now) done rest
           (subst (λ (gs : List Record). AllByRecursion (FitsRecord run.batch.now) gs) (sym parts) can.fits);
@@ -390,11 +371,6 @@ pub can_run_first : (run : BatchRun) (at : ℕ) (here later : List Record) (coun
 can_run_first run at here later counts can =
     let both = length-append here later in
     record {
-      from = can.from;
-      stand = record {
-        after = later ++ can.stand.after;
-        are = can.stand.are ∙ append_assoc here later can.stand.after;
-      };
       origin = can.origin;
       fits = all_first (FitsRecord run.batch.now) here later can.fits;
       few = omega (arith, both, can.few);

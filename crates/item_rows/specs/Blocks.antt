@@ -1,13 +1,15 @@
 -- Some records of a batch, one after the other.
-use Rattle.std.specs.Prelude.{◌≡◌, ℕ, ◌+◌, ◌-◌, ◌<◌, ◌≤◌, ◌^◌, List, [], ◌∷◌, ◌++◌, length, take, drop, Option}
+use Rattle.std.specs.Prelude.{◌≡◌, ℕ, ◌+◌, ◌<◌, ◌≤◌, ◌^◌, List, [], ◌∷◌, ◌++◌, length, take, drop, All, Option, Some}
 use Rattle.std.specs.Prelude.{option_map}
 use Rattle.std.specs.List.{AllByRecursion}
 use Rattle.wire_spec.specs.declared.{limits.TheConstants.TIMESTAMP_END, record.Record.Record, record.Batch.Batch}
 use Rattle.machine_spec.specs.{declared.outcome.Outcome.Outcome, declared.outcome.Place.Place, Image.Program}
 use Rattle.log_spec.specs.declared.row.Row.{Row}
-use Rattle.log_spec.specs.Logs.{place_of, rows_of, FitsRecord, IsRecordsRows}
+use Rattle.log_spec.specs.Logs.{place_of, rows_of, FitsRecord, IsRecordsRows, RowFits}
 use Rattle.fates.specs.{declared.fate.Fate.Fate, Fates.AreRecordsFates, Totals.Totals, Totals.AreCounts}
-use Rattle.item_rows.specs.{declared.batch_run.BatchRun.BatchRun, ItemRows.IsOrigin, ItemRows.Adds}
+use Rattle.exec.specs.declared.block.TheConstants.{BLOCK}
+use Rattle.item_rows.specs.declared.{origin.Origin.Origin, part.Part.Part, batch_run.BatchRun.BatchRun}
+use Rattle.item_rows.specs.ItemRows.{IsOrigin, Adds, rows_in}
 
 -- the places of a batch's records, in order; each record has the offset after the one before
 abbrev pub places_from : ℕ → ℕ → Batch → ℕ → List Record → List Place
@@ -26,6 +28,37 @@ rows_of_each output (place ∷ places) (outcome ∷ outcomes) =
 abbrev pub records_from : ℕ → ℕ → List Record → List Record
 records_from from count records = take count (drop from records)
 
+-- a part of so many records, for one block
+pub record IsPartOf (records : ℕ) (part : Part) : Type 0 where
+  pub few : part.count ≤ BLOCK
+  pub within : part.first + part.count ≤ records
+
+-- a batch with these records in place of its own
+abbrev pub with_records : Batch → List Record → Batch
+with_records batch given = record {
+  base_offset = batch.base_offset;
+  leader_epoch = batch.leader_epoch;
+  base_timestamp = batch.base_timestamp;
+  producer_id = batch.producer_id;
+  producer_epoch = batch.producer_epoch;
+  base_sequence = batch.base_sequence;
+  records = given;
+}
+
+-- a list has the rows of so many of a batch's records, from a number on, in each output, all within the limits of a
+-- record; the batch is at this origin
+pub record ArePartRows (origin : Origin) (program : Option Program) (batch : Batch) (from count : ℕ)
+    (all : List (List Row)) : Type 0 where
+  pub outputs : length all ≡ origin.outputs
+  pub each : (output : ℕ) → output < origin.outputs → IsRecordsRows origin.input output origin.outputs program batch
+      (origin.offset + from) (records_from from count batch.records) (rows_in all output)
+  pub fit : (output : ℕ) → output < origin.outputs → All RowFits (rows_in all output)
+
+-- the records of a batch from a number on give rows to each output; the batch is at this origin
+abbrev pub GiveRows : Origin → Program → Batch → ℕ → Type 0
+GiveRows origin program batch from = (output : ℕ) → (rows : List Row) × IsRecordsRows origin.input output origin.outputs
+    (Some program) batch (origin.offset + from) (drop from batch.records) rows
+
 -- records with these fates are counted beside the others
 pub record AreFatesMore (fates : List Fate) (old new : Totals) : Type 0 where
   pub counts : (before : List Fate) → AreCounts before old → AreCounts (before ++ fates) new
@@ -35,15 +68,8 @@ pub record AreFatesMore (fates : List Fate) (old new : Totals) : Type 0 where
 abbrev pub program_in : BatchRun → Option Program
 program_in run = option_map (λ p. p.now) run.program
 
--- some records stand one after the other in a list, from a number on
-pub record StandFrom (all : List Record) (from : ℕ) (given : List Record) : Type 0 where
-  pub after : List Record
-  pub are : drop from all ≡ given ++ after
-
 -- some records of a batch that fits a log, the first of which has this offset, can be run and counted
 pub record CanRun (run : BatchRun) (offset : ℕ) (given : List Record) (counts : Totals) : Type 0 where
-  pub from : run.origin.now.offset ≤ offset
-  pub stand : StandFrom run.batch.now.records (offset - run.origin.now.offset) given
   pub origin : IsOrigin run.origin.now
   pub fits : AllByRecursion (FitsRecord run.batch.now) given
   pub few : offset + length given ≤ TIMESTAMP_END

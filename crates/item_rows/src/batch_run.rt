@@ -1,6 +1,6 @@
-//! A program on the records of a batch: one by one, or a block of them abreast.
+//! A program on some records of a batch: one by one, or as a block, abreast.
 
-ghost use Rattle.std.specs.Prelude.{◌≡◌, ◌+◌, ◌<◌, ◌≤◌, ◌^◌, ◌<ℤ◌, ◌≤ℤ◌, pos, length, drop, IfOk, OnOk, IfSome, Some};
+ghost use Rattle.std.specs.Prelude.{◌≡◌, ◌+◌, ◌<◌, ◌≤◌, ◌^◌, ◌<ℤ◌, ◌≤ℤ◌, pos, length, IfOk, OnOk, IfSome, Some};
 ghost use Rattle.std.specs.List.{AllByRecursion};
 ghost use Rattle.wire_spec.specs.declared.limits.TheConstants.{TIMESTAMP_END};
 ghost use Rattle.machine_spec.specs.Meaning.{IsPlace};
@@ -11,12 +11,13 @@ ghost use Rattle.log_item.specs.Programs.{RunsSafelyOnEach};
 ghost use Rattle.log_spec.specs.Logs.{timestamp_of, place_of, FitsRecord, IsRecordRows};
 ghost use Rattle.fates.specs.Fates.{IsFate};
 ghost use Rattle.item_rows.specs.ItemRows.{IsOrigin, Adds};
-ghost use Rattle.item_rows.specs.Blocks.{places_from, program_in, records_from, CanRun, HaveRun};
+ghost use Rattle.item_rows.specs.Blocks.{places_from, program_in, records_from, IsPartOf, CanRun, HaveRun, GiveRows};
 
 use crate::blocks::Blocks;
 use crate::given::Given;
 use crate::origin::Origin;
 use crate::outcomes::{BlockRecords, RecordAt, push_outcome, push_outcomes};
+use crate::part::Part;
 use crate::records::timestamp;
 use crate::refs::RowRefs;
 use fates::{Counts, Fate};
@@ -96,20 +97,20 @@ impl<'a> BatchRun<'a> {
         self.origin.offset + number as u64
     }
 
-    /// Runs the records of the batch from a number on one by one, adds the rows that they give, and counts
-    /// them.
+    /// Runs some records of the batch one by one, adds the rows that they give, and counts them.
     fn push_each(
         &self,
-        first: usize,
+        part: Part,
         emitted: &mut EmittedList,
         all: &mut [RowRefs<'a>],
         counts: &mut Counts,
     ) -> Result<(), AllocError>
-        requires within { first ≤ length self.now.batch.now.records }
-        requires run { CanRun self.now (self.now.origin.now.offset + first) (drop first self.now.batch.now.records) counts.old }
-        ensures { OnOk result (HaveRun self.now (self.now.origin.now.offset + first) (drop first self.now.batch.now.records) all.old all.new counts.old counts.new) }
+        requires part { IsPartOf (length self.now.batch.now.records) part }
+        requires run { CanRun self.now (self.now.origin.now.offset + part.first) (records_from part.first part.count self.now.batch.now.records) counts.old }
+        ensures { OnOk result (HaveRun self.now (self.now.origin.now.offset + part.first) (records_from part.first part.count self.now.batch.now.records) all.old all.new counts.old counts.new) }
     {
-        for number in first..self.batch.len() {
+        let _few = self.batch.len();
+        for number in part.first..part.first + part.count {
             let found = Given::new(self.batch, number);
             let at = self.place(self.offset_of(number), &found.record());
             let fate = self.push_record(&at, &found, emitted, all)?;
@@ -118,15 +119,15 @@ impl<'a> BatchRun<'a> {
         Ok(())
     }
 
-    /// So many records of the batch from a number on, by reference.
-    fn references(&self, first: usize, count: usize) -> Result<Vec<RecordRef<'a>>, AllocError>
-        requires { first + count ≤ length self.now.batch.now.records }
-        ensures { IfOk result (λ records. records.items ≡ records_from first count self.now.batch.now.records) }
+    /// Some records of the batch, by reference.
+    fn references(&self, part: Part) -> Result<Vec<RecordRef<'a>>, AllocError>
+        requires { part.first + part.count ≤ length self.now.batch.now.records }
+        ensures { IfOk result (λ records. records.items ≡ records_from part.first part.count self.now.batch.now.records) }
     {
         let _few = self.batch.len();
-        let mut records = Vec::with_capacity(self.alloc, count)?;
-        for index in 0..count {
-            records.push(self.batch.record(first + index))?;
+        let mut records = Vec::with_capacity(self.alloc, part.count)?;
+        for index in 0..part.count {
+            records.push(self.batch.record(part.first + index))?;
         }
         Ok(records)
     }
@@ -153,56 +154,77 @@ impl<'a> BatchRun<'a> {
         Ok(places)
     }
 
-    /// Does what `push_each` does with all records, in blocks, each block abreast, and then with the few that
-    /// are left.
-    fn push_blocks(
+    /// Does what `push_each` does, as one block, its records abreast.
+    fn push_block(
         &self,
         program: &Program,
+        part: Part,
         blocks: &mut Blocks,
         all: &mut [RowRefs<'a>],
         counts: &mut Counts,
     ) -> Result<(), AllocError>
         requires program { program_in self.now ≡ Some program.now }
-        requires run { CanRun self.now self.now.origin.now.offset self.now.batch.now.records counts.old }
-        ensures { OnOk result (HaveRun self.now self.now.origin.now.offset self.now.batch.now.records all.old all.new counts.old counts.new) }
+        requires part { IsPartOf (length self.now.batch.now.records) part }
+        requires run { CanRun self.now (self.now.origin.now.offset + part.first) (records_from part.first part.count self.now.batch.now.records) counts.old }
+        ensures { OnOk result (HaveRun self.now (self.now.origin.now.offset + part.first) (records_from part.first part.count self.now.batch.now.records) all.old all.new counts.old counts.new) }
     {
-        let mut emitted = EmittedList::new(self.alloc);
-        let total = self.batch.len();
-        let mut done = 0;
-        while total - done >= LEAST {
-            let count = (total - done).min(BLOCK);
-            let records = self.references(done, count)?;
-            let mut block = blocks.take(count)?;
-            let places = self.run_block(
-                program,
-                self.offset_of(done),
-                records.as_slice(),
-                &mut block,
-            )?;
-            let ran = BlockRecords {
-                places: places.as_slice(),
-                logged: self.batch,
-                from: done,
-            };
-            push_outcomes(self.first, &ran, &mut block, &mut emitted, all, counts)?;
-            blocks.keep(count, block);
-            done += count;
-        }
-        self.push_each(done, &mut emitted, all, counts)
+        let records = self.references(part)?;
+        let mut block = blocks.take(part.count)?;
+        let places = self.run_block(
+            program,
+            self.offset_of(part.first),
+            records.as_slice(),
+            &mut block,
+        )?;
+        let ran = BlockRecords {
+            places: places.as_slice(),
+            logged: self.batch,
+            from: part.first,
+        };
+        push_outcomes(
+            self.first,
+            &ran,
+            &mut block,
+            &mut blocks.emitted,
+            all,
+            counts,
+        )?;
+        blocks.keep(part.count, block);
+        Ok(())
     }
 
-    /// The program in force, where so many records take less time abreast than one by one.
-    fn program_abreast(&self, records: usize) -> Option<&'a Program>
+    /// The program in force, where so many records of the batch take less time abreast than one by one.
+    fn program_abreast(&self, count: usize) -> Option<&'a Program>
         ensures { IfSome result (λ program. program_in self.now ≡ Some program.now) }
     {
         match self.program {
-            Some(program) if records >= MANY && program.pays() => Some(program),
+            Some(program) if count >= LEAST && self.batch.len() >= MANY && program.pays() => {
+                Some(program)
+            }
             _ => None,
         }
     }
 
-    /// Runs the records of the batch, adds the rows that they give, and counts them, in the way that takes
-    /// less time.
+    /// Runs at most a block's records of the batch, adds the rows that they give, and counts them, in the way
+    /// that takes less time.
+    pub(crate) fn push_part(
+        &self,
+        part: Part,
+        blocks: &mut Blocks,
+        all: &mut [RowRefs<'a>],
+        counts: &mut Counts,
+    ) -> Result<(), AllocError>
+        requires part { IsPartOf (length self.now.batch.now.records) part }
+        requires run { CanRun self.now (self.now.origin.now.offset + part.first) (records_from part.first part.count self.now.batch.now.records) counts.old }
+        ensures { OnOk result (HaveRun self.now (self.now.origin.now.offset + part.first) (records_from part.first part.count self.now.batch.now.records) all.old all.new counts.old counts.new) }
+    {
+        match self.program_abreast(part.count) {
+            Some(program) => self.push_block(program, part, blocks, all, counts),
+            None => self.push_each(part, &mut blocks.emitted, all, counts),
+        }
+    }
+
+    /// The same with all records of the batch, one part after the other.
     pub(crate) fn push_all(
         &self,
         blocks: &mut Blocks,
@@ -212,12 +234,28 @@ impl<'a> BatchRun<'a> {
         requires { CanRun self.now self.now.origin.now.offset self.now.batch.now.records counts.old }
         ensures { OnOk result (HaveRun self.now self.now.origin.now.offset self.now.batch.now.records all.old all.new counts.old counts.new) }
     {
-        match self.program_abreast(self.batch.len()) {
-            Some(program) => self.push_blocks(program, blocks, all, counts),
-            None => {
-                let mut emitted = EmittedList::new(self.alloc);
-                self.push_each(0, &mut emitted, all, counts)
-            }
+        let total = self.batch.len();
+        let mut done = 0;
+        while done < total {
+            let part = Part::next(done, total);
+            self.push_part(part, blocks, all, counts)?;
+            done += part.count;
+        }
+        Ok(())
+    }
+
+    /// Runs a program on the records of the batch from a number on, and drops what they emit.
+    pub(crate) fn drop_rest(&self, program: &Program, first: usize, blocks: &mut Blocks)
+        requires origin { IsOrigin self.now.origin.now }
+        requires within { first ≤ length self.now.batch.now.records }
+        ensures { GiveRows self.now.origin.now program.now self.now.batch.now first }
+    {
+        let _fits = self.batch.len();
+        for number in first..self.batch.len() {
+            let found = Given::new(self.batch, number);
+            let given = found.record();
+            let at = self.place(self.offset_of(number), &given);
+            let _ending = program.run_into(self.alloc, &given, &at, &mut blocks.emitted);
         }
     }
 }

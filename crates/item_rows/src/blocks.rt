@@ -1,9 +1,9 @@
-use log_item::{BLOCK, Block};
+use log_item::{BLOCK, Block, EmittedList};
 use std::alloc::{AllocError, Global};
 
-/// Blocks that the records of items are run in. What runs an item after another keeps them between the
-/// items. Beside its rows an item then takes memory for its counts, and each run of a block for lists of its
-/// records' keys, values and places.
+/// Blocks that the records of items are run in, and a list for what one record emits. What runs an item
+/// after another keeps them between the items. Beside its rows an item then takes memory for its counts, and
+/// each run of a block for lists of its records' keys, values and places.
 #[derive(Drop)]
 pub struct Blocks {
     pub(crate) alloc: Global,
@@ -11,6 +11,7 @@ pub struct Blocks {
     whole: Option<Block>,
     // Of fewer.
     last: Option<Block>,
+    pub(crate) emitted: EmittedList,
 }
 
 impl Blocks {
@@ -20,6 +21,7 @@ impl Blocks {
             alloc,
             whole: None,
             last: None,
+            emitted: EmittedList::new(alloc),
         }
     }
 

@@ -10,7 +10,7 @@ use crate::book_row::BookRow;
 use crate::origin::Origin;
 use crate::records::push_records;
 use crate::refs::RowRefs;
-use crate::rows::{ItemRefs, ItemRows, empty};
+use crate::rows::{ItemRefs, ItemRows, empty, room_for};
 use fates::Counts;
 use log_item::{Item, Program};
 use std::alloc::{AllocError, Global};
@@ -49,8 +49,7 @@ fn push_item<'a>(
     }
 }
 
-/// For how many of an item's rows each of `count` output partitions has room at first: somewhat more
-/// than its share where each record gives one row. Its list then seldom grows.
+/// For how many of an item's rows each of `count` output partitions has room at first.
 fn rows_expected(program: Option<&Program>, item: &Item, count: usize) -> usize
     requires { 0 < count }
     ensures { result ≤ records_in (item_view item.now) }
@@ -58,9 +57,7 @@ fn rows_expected(program: Option<&Program>, item: &Item, count: usize) -> usize
     if program.is_none() {
         return 0;
     }
-    let records = item.records() as usize;
-    let share = records / count;
-    records.min(share + share / 8)
+    room_for(item.records() as usize, count)
 }
 
 /// The rows of an item in `count` output partitions from `first` on, and the counts of its records.
@@ -83,10 +80,8 @@ fn rows_from<'a>(
     Ok(ItemRefs::new(all, counts))
 }
 
-/// The rows of an item in each output, by the program in force before it: none of a mark or the
-/// end, and none of a batch with no mark before it; and the counts of its records. Each record is run
-/// once, which no clause says. The rows refer to the item's records. It fails only where memory runs out.
-pub fn item_refs_in<'a>(
+/// The rows of an item in each output, which refer to the item's records, and the counts of these.
+fn item_refs_in<'a>(
     blocks: &mut Blocks,
     origin: &'a Origin,
     program: Option<&'a Program>,
@@ -99,7 +94,9 @@ pub fn item_refs_in<'a>(
     rows_from(blocks, origin, program, item, 0, origin.outputs)
 }
 
-/// The same, as books have them.
+/// The rows of an item in each output, by the program in force before it: none of a mark or the
+/// end, and none of a batch with no mark before it; and the counts of its records. Each record is run
+/// once, which no clause says. It fails only where memory runs out.
 pub fn item_rows_in(
     blocks: &mut Blocks,
     origin: &Origin,

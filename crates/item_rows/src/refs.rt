@@ -144,6 +144,14 @@ impl<'a> RowRefs<'a> {
         })
     }
 
+    /// Leaves no rows. The lists keep their room.
+    pub(crate) fn clear(&mut self)
+        ensures { self.new ≡ [] }
+    {
+        self.slots.clear();
+        self.made.clear();
+    }
+
     /// Adds the row of what a program emitted for a record.
     #[inline(always)]
     pub(crate) fn push(

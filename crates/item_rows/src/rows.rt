@@ -1,10 +1,18 @@
-ghost use Rattle.std.specs.Prelude.{◌≡◌, ◌<◌, ◌++◌, ◌∷◌, [], length, IfOk, OnOk, Some, slice_get, slice_set};
+ghost use Rattle.std.specs.Prelude.{◌≡◌, ◌<◌, ◌≤◌, ◌+◌, ◌^◌, ◌++◌, ◌∷◌, [], length, IfOk, OnOk, Some, slice_get, slice_set};
 ghost use Rattle.std.specs.Arc.{arc_value};
-ghost use Rattle.item_rows.specs.ItemRows.{AreEmpty, item_yield};
+ghost use Rattle.log_spec.specs.Logs.{FitsLog};
+ghost use Rattle.fates.specs.{Fates.AreRecordsFates, Totals.AreCountsWith};
+ghost use Rattle.item_rows.specs.ItemRows.{AreEmpty, IsOrigin, item_yield};
+ghost use Rattle.item_rows.specs.Blocks.{program_in, records_from, IsPartOf, ArePartRows};
 
+use crate::batch_run::BatchRun;
+use crate::blocks::Blocks;
 use crate::book_row::BookRow;
+use crate::part::Part;
+use crate::records::refill;
 use crate::refs::RowRefs;
 use fates::Counts;
+use log_item::BLOCK;
 use std::alloc::{AllocError, Global};
 use std::marker::Model;
 use std::mem;
@@ -51,6 +59,17 @@ impl OutputRows {
     }
 }
 
+/// For how many rows of so many records each of `outputs` output partitions has room at first: somewhat more
+/// than its share where each record gives one row. Its list then seldom grows.
+pub(crate) fn room_for(records: usize, outputs: usize) -> usize
+    requires some { 0 < outputs }
+    requires few { records < 2 ^ 62 }
+    ensures { result ≤ records }
+{
+    let share = records / outputs;
+    records.min(share + share / 8)
+}
+
 /// No rows in each of `outputs` output partitions, and room for so many in each.
 #[tactic(auto, using(crate::proofs::RowLaws::empty_more, crate::proofs::RowLaws::empty_none))]
 pub(crate) fn empty<'a>(
@@ -66,6 +85,15 @@ pub(crate) fn empty<'a>(
         all.push(none)?;
     }
     Ok(all)
+}
+
+/// Leaves no rows in each output partition. The lists keep their room.
+pub(crate) fn clear_each(all: &mut [RowRefs])
+    ensures { AreEmpty (length all.old) all.new }
+{
+    for output in 0..all.len() {
+        all[output].clear();
+    }
 }
 
 /// The rows of each output partition as books have them.
@@ -102,6 +130,35 @@ impl<'a> ItemRefs<'a> {
         ensures { result ≡ item_yield outputs.entry.items counts }
     {
         ItemRefs { outputs, counts }
+    }
+
+    /// No rows in each of so many output partitions, of no record, and room for those that a part of so many
+    /// records may have.
+    pub fn none(alloc: Global, outputs: usize, records: usize) -> Result<ItemRefs<'a>, AllocError>
+        requires { 0 < outputs }
+        ensures { IfOk result (λ made. length made.rows ≡ outputs) }
+    {
+        let all = empty(alloc, outputs, room_for(records.min(BLOCK), outputs))?;
+        Ok(ItemRefs::new(all, Counts::new(alloc)))
+    }
+
+    /// The rows and the counts of some records that are run, in place of those that are here.
+    pub(crate) fn fill(
+        &mut self,
+        run: &BatchRun<'a>,
+        part: Part,
+        blocks: &mut Blocks,
+    ) -> Result<(), AllocError>
+        requires first { run.now.first ≡ 0 }
+        requires origin { IsOrigin run.now.origin.now }
+        requires fits { FitsLog run.now.batch.now }
+        requires part { IsPartOf (length run.now.batch.now.records) part }
+        requires outputs { length self.old.rows ≡ run.now.origin.now.outputs }
+        ensures rows { OnOk result (ArePartRows run.now.origin.now (program_in run.now) run.now.batch.now part.first part.count self.new.rows) }
+        ensures counts { OnOk result (AreCountsWith (AreRecordsFates run.now.origin.now.input run.now.origin.now.outputs (program_in run.now) run.now.batch.now (run.now.origin.now.offset + part.first) (records_from part.first part.count run.now.batch.now.records)) self.new.counts) }
+    {
+        self.counts = refill(run, part, blocks, &mut self.outputs)?;
+        Ok(())
     }
 
     /// How many output partitions there are.

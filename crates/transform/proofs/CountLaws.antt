@@ -1,15 +1,19 @@
 -- What became of the records of batches, and its counts.
-use Rattle.std.proofs.Common.{◌≡◌, ℕ, ◌+◌, Bool, true, cond, List, [], ◌∷◌, ◌++◌, length, Option, Some, None, refl, sym}
+use Rattle.std.proofs.Common.{◌≡◌, ℕ, ◌+◌, ◌≤◌, Bool, true, cond, List, [], ◌∷◌, ◌++◌, length, Some, None, refl, sym}
 use Rattle.std.proofs.Common.{ap, subst, ◌∙◌, append_assoc, append-nil, arith, ◌==◌}
 use Rattle.std.specs.Cmp.{unsigned_tied}
 use Rattle.std.proofs.lemmas.Bool.Decides.{nat_tests}
 use Rattle.wire_spec.specs.declared.record.Batch.{Batch}
 use Rattle.machine_spec.specs.Image.{Program}
 use Rattle.log_spec.specs.Logs.{Records}
-use Rattle.fates.specs.{declared.fate.Fate.Fate, Fates.AreItemFates}
-use Rattle.fates.specs.Totals.{Totals, totals, rejected_by, AreCounts, AreItemCounts}
+use Rattle.fates.specs.{declared.fate.Fate.Fate, Fates.AreItemFates, Fates.AreRecordsFates}
+use Rattle.fates.specs.Totals.{Totals, totals, rejected_by, AreCounts, AreCountsWith}
 use Rattle.fates.proofs.FateLaws.{records_fates}
+use Rattle.item_rows.specs.declared.{origin.Origin.Origin, part.Part.Part}
+use Rattle.item_rows.specs.Blocks.{records_from}
+use Rattle.item_rows.proofs.BlockLaws.{between_long}
 use Rattle.transform.specs.Transforms.{AreFates, Flow, none_counted, AddsCounts, CountsBatch, CountsBatches, records_of}
+use Rattle.transform.specs.Parts.{CountsPart}
 
 -- ---- no record
 
@@ -40,23 +44,31 @@ none_are counts are =
 pub adds_none : (counts : Totals) → AddsCounts counts [] counts
 adds_none counts before are = subst (λ (fs : List Fate). AreCounts fs counts) (sym (append-nil before)) are
 
--- ---- one batch
+-- ---- some records
 
--- as many records were counted as the batch has
-pub batch_counted : (input outputs : ℕ) (program : Option Program) (offset : ℕ) (batch : Batch) (counts : Totals) →
-    AreItemCounts input outputs program offset (Records batch) counts → counts.records ≡ length batch.records
-batch_counted input outputs program offset batch counts are =
+-- as many records were counted as there are
+pub part_counted : (origin : Origin) (program : Program) (batch : Batch) (part : Part) (counts : Totals) →
+    part.first + part.count ≤ length batch.records →
+    AreCountsWith (AreRecordsFates origin.input origin.outputs (Some program) batch (origin.offset + part.first)
+    (records_from part.first part.count batch.records)) counts → counts.records ≡ part.count
+part_counted origin program batch part counts within are =
     are.counts_are.records_are
-    ∙ records_fates input outputs program batch offset batch.records are.fates are.fates_are
+    ∙ (records_fates origin.input origin.outputs (Some program) batch (origin.offset + part.first)
+    (records_from part.first part.count batch.records) are.fates are.fates_are
+    ∙ between_long batch.records part.first part.count within)
 
--- the fates of the batch are those that its counts are of
-pub counts_batch : (program : Program) (batch : Batch) (old : Flow) (here new : Totals) →
-    AreItemCounts old.input (length old.outputs) (Some program) old.offset (Records batch) here →
-    ((before later : List Fate) → AreCounts before old.counts → AreCounts later here →
-    AreCounts (before ++ later) new) →
-    CountsBatch program batch old new
-counts_batch program batch old here new are sums =
-    (are.fates, are.fates_are, λ before were. sums before are.fates were are.counts_are)
+-- their fates are those that their counts are of
+pub counts_part : (program : Program) (origin : Origin) (batch : Batch) (part : Part) (old here here' new : Totals) →
+    here' ≡ here →
+    AreCountsWith (AreRecordsFates origin.input origin.outputs (Some program) batch (origin.offset + part.first)
+    (records_from part.first part.count batch.records)) here →
+    ((before later : List Fate) → AreCounts before old → AreCounts later here' → AreCounts (before ++ later) new) →
+    CountsPart program origin batch part old new
+counts_part program origin batch part old here here' new same are sums = (
+  are.fates,
+  are.fates_are,
+  λ before were. sums before are.fates were (subst (AreCounts are.fates) (sym same) are.counts_are),
+)
 
 -- ---- one batch more
 

@@ -9,43 +9,47 @@ use Rattle.fates.specs.Totals.{Totals}
 use Rattle.transform.specs.declared.{outlet.OutletFault.OutletFault, flow.TransformFault.TransformFault}
 use Rattle.transform.specs.declared.flow.TransformFault.TheVariants as fault
 use Rattle.transform.specs.{Backlogs.Waiting, Backlogs.with_rows, Outlets.Outflow, Outlets.WroteFull}
-use Rattle.transform.specs.Transforms.{Flow, output_at, Fills, FillsSome, StopsFilling, Pushes, EndsFlow, AreFlowRows}
+use Rattle.transform.specs.Transforms.{Flow, output_at, Fills, FillsSome, FillsFirst, StopsFilling, StopsFirst, Pushes}
+use Rattle.transform.specs.Transforms.{EndsFlow, AreFlowRows}
 use Rattle.transform.specs.Transforms.{CountsBatches, Follows, Finished, Broken, origin_of, records_of}
 use Rattle.transform.proofs.{ShownLaws.none_with, ShownLaws.more_with, LogOfLaws.rows_more, CountLaws.adds_none}
 use Rattle.transform.proofs.CountLaws.{counts_more}
-use Rattle.transform.proofs.OutletLaws.{full_none, wrote_with, wrote_then, wrote_then_batches, wrote_then_stops}
+use Rattle.transform.proofs.OutletLaws.{full_none, full_stops, wrote_batches, wrote_with, wrote_then}
+use Rattle.transform.proofs.OutletLaws.{wrote_then_batches, wrote_then_stops, wrote_then_stops_full}
 
 -- ---- one output partition
 
 -- what was written of the rows so far, with rows more that come later
-filled_with : (rows more : List Row) (x y : Outflow) → Fills rows x y →
+pub filled_with : (rows more : List Row) (x y : Outflow) → Fills rows x y →
     WroteFull (with_rows x.waits (rows ++ more)) x.written (with_rows y.waits more) y.written
 filled_with rows more x y fills =
     subst (λ (w : Waiting). WroteFull w x.written (with_rows y.waits more) y.written) (more_with x.waits rows more)
     (wrote_with (with_rows x.waits rows) y.waits x.written y.written more fills)
 
-fills_then : (rows more : List Row) (x y z : Outflow) → Fills rows x y → Fills more y z → Fills (rows ++ more) x z
+pub fills_then : (rows more : List Row) (x y z : Outflow) → Fills rows x y → Fills more y z → Fills (rows ++ more) x z
 fills_then rows more x y z one two =
     wrote_then (with_rows x.waits (rows ++ more)) (with_rows y.waits more) z.waits x.written y.written z.written
     (filled_with rows more x y one) two
 
-fills_then_some : (rows more : List Row) (x y z : Outflow) → Fills rows x y → FillsSome more y z →
+fills_then_some : (rows more : List Row) (x y z : Outflow) → Fills rows x y → FillsFirst more y z →
     FillsSome (rows ++ more) x z
 fills_then_some rows more x y z one two = (
   two.0,
-  wrote_then_batches (with_rows x.waits (rows ++ more)) (with_rows y.waits more) two.0 x.written y.written
-      z.written (filled_with rows more x y one) two.1,
+  wrote_batches (with_rows x.waits (rows ++ more)) two.0 x.written z.written
+      (wrote_then (with_rows x.waits (rows ++ more)) (with_rows y.waits more) two.0 x.written y.written z.written
+      (filled_with rows more x y one) two.1),
 )
 
 fills_then_stops : (rows more : List Row) (x y z : Outflow) (why : OutletFault) → Fills rows x y →
-    StopsFilling more y why z → StopsFilling (rows ++ more) x why z
+    StopsFirst more y why z → StopsFilling (rows ++ more) x why z
 fills_then_stops rows more x y z why one two =
-    wrote_then_stops (with_rows x.waits (rows ++ more)) (with_rows y.waits more) x.written y.written z.written why
-    (filled_with rows more x y one) two
+    full_stops (with_rows x.waits (rows ++ more)) x.written z.written why
+    (wrote_then_stops_full (with_rows x.waits (rows ++ more)) (with_rows y.waits more) x.written y.written z.written why
+    (filled_with rows more x y one) two)
 
 -- ---- all output partitions
 
-fills_nothing : (x : Outflow) → Fills [] x x
+pub fills_nothing : (x : Outflow) → Fills [] x x
 fills_nothing x =
     subst (λ (w : Waiting). WroteFull w x.written x.waits x.written) (sym (none_with x.waits))
     (full_none x.waits x.written)

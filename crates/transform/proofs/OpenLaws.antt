@@ -10,10 +10,10 @@ use Rattle.transform.specs.declared.outlet.OutletFault.{OutletFault}
 use Rattle.transform.specs.declared.outlet.OutletFault.TheVariants as fault
 use Rattle.transform.specs.Backlogs.{Waiting, having, with_rows, as_shown, rest_after, none_after}
 use Rattle.transform.specs.Backlogs.{IsBatchOf, IsFull, TakesRow}
-use Rattle.transform.specs.Outlets.{WroteFull, WroteBatches, Fails, PutsAll, PutsOpen}
+use Rattle.transform.specs.Outlets.{WroteFull, WroteBatches, FailsFull, PutsAll, PutsOpen}
 use Rattle.transform.proofs.ShownLaws.{one_shown, more_with}
-use Rattle.transform.proofs.OutletLaws.{batches_none, wrote_batches, wrote_to, wrote_then}
-use Rattle.transform.proofs.OutletLaws.{wrote_then_stops, batch_with, full_with, total}
+use Rattle.transform.proofs.OutletLaws.{full_none, batches_none, wrote_batches, wrote_to, wrote_then}
+use Rattle.transform.proofs.OutletLaws.{wrote_then_stops_full, batch_with, full_with, total}
 
 -- ---- one row
 
@@ -73,33 +73,31 @@ put_after old same mid new row others before after full (bytes, given, written) 
 
 -- memory ran out before the row was added
 pub stops_before : (old : Waiting) (rows : List Row) (held : Option (List ℕ)) →
-    Fails (with_rows old rows) held fault.Memory held
-stops_before old rows held = (λ e. absurd cc, (with_rows old rows, batches_none (with_rows old rows) held))
+    FailsFull (with_rows old rows) held fault.Memory held
+stops_before old rows held = (λ e. absurd cc, (with_rows old rows, full_none (with_rows old rows) held))
 
 -- or after the batch was written
 pub stops_after : (old same mid : Waiting) (row : Row) (others : List Row) (before after : Option (List ℕ)) →
     TakesRow false old row same → PutsOpen same before (Ok tt) mid after →
-    Fails (with_rows old (row ∷ others)) before fault.Memory after
+    FailsFull (with_rows old (row ∷ others)) before fault.Memory after
 stops_after old same mid row others before after full puts =
-    let wrote : PutsOpen old before (Ok tt) mid after = opened old same mid row before after (Ok tt) full puts in
-    let rest = having (none_after old) (row ∷ others) in (
+    let wrote : PutsOpen old before (Ok tt) mid after = opened old same mid row before after (Ok tt) full puts in (
       λ e. absurd cc,
       (
-        rest,
-        wrote_batches (with_rows old (row ∷ others)) rest before after
-            (wrote_open old row others before after wrote.0 (too_much old row others wrote.0 full.2 wrote.1.0) wrote.2),
+        having (none_after old) (row ∷ others),
+        wrote_open old row others before after wrote.0 (too_much old row others wrote.0 full.2 wrote.1.0) wrote.2,
       ),
     )
 
 -- or the batch was not written
 pub stops_open : (old same mid : Waiting) (row : Row) (others : List Row) (before after : Option (List ℕ))
     (why : OutletFault) → TakesRow false old row same → PutsOpen same before (Err why) mid after →
-    Fails (with_rows old (row ∷ others)) before why after
+    FailsFull (with_rows old (row ∷ others)) before why after
 stops_open old same mid row others before after why full puts =
     by_fault why (opened old same mid row before after (Err why) full puts)
   where
     by_fault : (why : OutletFault) → PutsOpen old before (Err why) mid after →
-        Fails (with_rows old (row ∷ others)) before why after
+        FailsFull (with_rows old (row ∷ others)) before why after
     by_fault fault.Write (bytes, batch, begun) = (
       λ e. absurd cc,
       record {
@@ -113,7 +111,7 @@ stops_open old same mid row others before after why full puts =
       },
     )
     by_fault fault.Memory kept =
-        subst (λ (h : Option (List ℕ)). Fails (with_rows old (row ∷ others)) before fault.Memory h) (sym kept)
+        subst (λ (h : Option (List ℕ)). FailsFull (with_rows old (row ∷ others)) before fault.Memory h) (sym kept)
         (stops_before old (row ∷ others) before)
     by_fault fault.Full never = absurd never
 
@@ -163,11 +161,11 @@ put_next old mid new rows index row a b c more is so_far next =
 pub put_stops : (old mid : Waiting) (rows : List Row) (index : ℕ) (row : Row) (a b c : Option (List ℕ))
     (why : OutletFault) → index < length rows → row ≡ slice_index_or rows index row →
     WroteFull (with_rows old rows) a (with_rows mid (drop index rows)) b →
-    Fails (with_rows mid (row ∷ drop (index + 1) rows)) b why c → Fails (with_rows old rows) a why c
+    FailsFull (with_rows mid (row ∷ drop (index + 1) rows)) b why c → FailsFull (with_rows old rows) a why c
 put_stops old mid rows index row a b c why more is so_far next =
     let left = first_left rows index row more is in (
       next.0,
-      wrote_then_stops (with_rows old rows) (with_rows mid (row ∷ drop (index + 1) rows)) a b c why
+      wrote_then_stops_full (with_rows old rows) (with_rows mid (row ∷ drop (index + 1) rows)) a b c why
           (subst (λ (rs : List Row). WroteFull (with_rows old rows) a (with_rows mid rs) b) left so_far) next.1,
     )
 

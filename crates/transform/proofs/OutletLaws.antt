@@ -11,7 +11,7 @@ use Rattle.row_batch.specs.RowBatches.{batch_of}
 use Rattle.transform.specs.declared.outlet.OutletFault.{OutletFault}
 use Rattle.transform.specs.declared.outlet.OutletFault.TheVariants as cause
 use Rattle.transform.specs.Backlogs.{Waiting, having, with_rows, ShowsSame, rest_after, IsBatchOf, IsFull}
-use Rattle.transform.specs.Outlets.{AreFull, AreBatches, WroteFull, WroteBatches, WrotePart, Stops}
+use Rattle.transform.specs.Outlets.{AreFull, AreBatches, WroteFull, WroteBatches, WrotePart, Stops, StopsFull}
 use Rattle.transform.proofs.ShownLaws.{same_length, full_from, batches_from, full_to, with_same}
 use Rattle.wire_spec.proofs.Beginnings.{begun_then}
 
@@ -153,7 +153,7 @@ wrote_then_part old mid a b c one two =
     record {
       batches = one.batches ++ two.batches;
       rest = two.rest;
-      are = batches_then old mid two.rest one.batches two.batches (all_batches old mid one.batches one.are) two.are;
+      are = full_then old mid two.rest one.batches two.batches one.are two.are;
       count = two.count;
       next = two.next;
       next_is = two.next_is;
@@ -168,3 +168,35 @@ wrote_then_stops old mid a b c cause.Full one (many, rest, two) =
     let same = total old mid one.batches (all_batches old mid one.batches one.are) in
     (omega (arith, many, same), rest, wrote_then_batches old mid rest a b c one two)
 wrote_then_stops old mid a b c cause.Memory one (rest, two) = (rest, wrote_then_batches old mid rest a b c one two)
+
+-- ---- full batches before a fault
+
+pub wrote_then_stops_full : (old mid : Waiting) (a b c : Option (List ℕ)) (why : OutletFault) → WroteFull old a mid b →
+    StopsFull mid b why c → StopsFull old a why c
+wrote_then_stops_full old mid a b c cause.Write one two = wrote_then_part old mid a b c one two
+wrote_then_stops_full old mid a b c cause.Full one (many, rest, two) =
+    let same = total old mid one.batches (all_batches old mid one.batches one.are) in
+    (omega (arith, many, same), rest, wrote_then old mid rest a b c one two)
+wrote_then_stops_full old mid a b c cause.Memory one (rest, two) = (rest, wrote_then old mid rest a b c one two)
+
+-- rows that come later change nothing
+pub stops_with : (w : Waiting) (a b : Option (List ℕ)) (why : OutletFault) (more : List Row) → StopsFull w a why b →
+    StopsFull (with_rows w more) a why b
+stops_with w a b cause.Write more stops = record {
+  batches = stops.batches;
+  rest = with_rows stops.rest more;
+  are = all_with w stops.rest more stops.batches stops.are;
+  count = stops.count;
+  next = stops.next;
+  next_is = batch_with stops.rest more stops.count stops.next stops.next_is;
+  written = stops.written;
+}
+stops_with w a b cause.Full more (many, rest, wrote) =
+    (omega (arith, many, length-append w.rows more), with_rows rest more, wrote_with w rest a b more wrote)
+stops_with w a b cause.Memory more (rest, wrote) = (with_rows rest more, wrote_with w rest a b more wrote)
+
+-- whole batches were written then too
+pub full_stops : (w : Waiting) (a b : Option (List ℕ)) (why : OutletFault) → StopsFull w a why b → Stops w a why b
+full_stops w a b cause.Write stops = stops
+full_stops w a b cause.Full (many, rest, wrote) = (many, rest, wrote_batches w rest a b wrote)
+full_stops w a b cause.Memory (rest, wrote) = (rest, wrote_batches w rest a b wrote)

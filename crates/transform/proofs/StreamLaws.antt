@@ -3,6 +3,7 @@ use Rattle.std.proofs.Common.{◌≡◌, ℕ, ◌+◌, ◌-◌, ◌≤◌, true,
 use Rattle.std.proofs.Common.{None, Result, Ok, Err, refl, sym, ap, subst, ◌∙◌, ◌⊎◌, inl, inr, arith, ◌^◌, min}
 use Rattle.std.proofs.Common.{slice_get, append_assoc, append-nil}
 use Rattle.std.proofs.{Math.Nat.min-eq_left, lemmas.List.length-drop, lemmas.List.length_push, lemmas.Option.same_Some}
+use Rattle.std.proofs.lemmas.List.{same_from_push}
 use Rattle.std.proofs.{lemmas.List.take_all, lemmas.List.take-append-le, lemmas.Option.slice_get_within}
 use Rattle.wire_spec.specs.{declared.record.Batch.Batch, BatchReading.batch_at}
 use Rattle.machine_spec.specs.Image.{Program}
@@ -13,11 +14,13 @@ use Rattle.batch_reader.specs.declared.{reader.Position.Position, reader.ReadFau
 use Rattle.batch_reader.specs.declared.reader.ReadFault.TheVariants as read
 use Rattle.batch_reader.specs.Readings.{Inlet, left_of, IsOpen, LosesBatch, ReadsBatch}
 use Rattle.transform.specs.declared.{stream.StreamFault.StreamFault, flow.TransformFault.TransformFault}
+use Rattle.transform.specs.declared.outlet.OutletFault.{OutletFault}
 use Rattle.transform.specs.declared.stream.StreamFault.TheVariants as fault
 use Rattle.transform.specs.declared.flow.TransformFault.TheVariants as stop
-use Rattle.transform.specs.Transforms.{Flow, Follows, Pushes, EndsFlow, records_of}
+use Rattle.transform.specs.Transforms.{Flow, Follows, Pushes, PushesFirst, EndsFlow, first_of, records_of}
 use Rattle.transform.specs.Tellings.{Telling, telling, AddsTellings}
-use Rattle.transform.specs.Streams.{Begins, Gave, EndsAt, Pushed, is_broken, Completed, Transformed, IsToldAfter}
+use Rattle.transform.specs.Streams.{Begins, Gave, EndsAt, AreCut, PushedFirst, Pushed, is_broken, is_cut}
+use Rattle.transform.specs.Streams.{Completed, Transformed, IsToldAfter}
 use Rattle.transform.specs.Streams.{AreTellings, ArePushed, PushesAll, Tells, PushesWatched, TransformsWatched}
 use Rattle.transform.specs.Transformed.{PushesTo}
 use Rattle.transform.proofs.FollowLaws.{none_follows, one_follows, one_stops, end_finishes, end_counts, end_stops}
@@ -161,7 +164,7 @@ pub record PushesTold (program : Program) (reader : Inlet) (start : Flow) (resul
     (after : Inlet) (now : Flow) (old new : Option (List Telling)) (place : Position) : Type 0 where
   all : PushesAll program reader start result after now
   told : Tells reader start program all.0 result now old new
-  placed : is_broken result ≡ false → place ≡ all.1.given
+  placed : is_cut result ≡ false → place ≡ all.1.given
 
 pub was_told : {program : Program} {reader : Inlet} {start : Flow} {result : Result (Unit {0}) StreamFault}
     {after : Inlet} {now : Flow} {old new : Option (List Telling)} {place : Position} →
@@ -269,7 +272,7 @@ module _ (program : Program) (first : Inlet) (start : Flow) (old : Option (List 
           told = (
             so_far.batches,
             so_far.tellings,
-            (before, so_far.follows, inr (batch, refl, pushes)),
+            (before, so_far.follows, inr (batch, refl, inl pushes)),
             so_far.are,
             so_far.told,
           );
@@ -278,7 +281,24 @@ module _ (program : Program) (first : Inlet) (start : Flow) (old : Option (List 
         by_fault stop.Full (top, same) =
             ends (Err (fault.Transform stop.Full)) (omega (arith, top, so_far.follows.offset), batch, reads)
             (still same) refl
-        by_fault stop.Memory same = ends (Err (fault.Transform stop.Memory)) (batch, reads) (still same) refl
+        by_fault stop.Memory pushes = record {
+          all = (
+            so_far.batches ++ batch ∷ [],
+            after,
+            gave_more first mid after so_far.batches batch so_far.gave reads,
+            refl,
+            record {
+              before = so_far.batches;
+              last = batch;
+              are = refl;
+              mid = before;
+              follows = so_far.follows;
+              pushes = pushes;
+            },
+          );
+          told = (so_far.batches, so_far.tellings, (batch, refl), so_far.are, so_far.told);
+          placed = λ whole. absurd cc;
+        }
 
 -- ---- and what waits is written
 
@@ -297,49 +317,109 @@ none_more old new (read.Batch cause) reads = reads.1
 none_more old new read.Read reads = reads
 none_more old new read.Memory reads = reads
 
--- What is known where no output partition failed: all batches were pushed, and the reader gave none more, or one.
-record Unbroken (start : Flow) (program : Program) (batches pushed : List Batch)
-    (result : Result (Unit {0}) StreamFault) (mid now : Flow) (last after : Inlet) : Type 0 where
-  follows : Follows start program batches mid
-  all_pushed : batches ≡ pushed
-  done : Completed start program batches now → Transformed start program batches result now
-  told : ArePushed start program batches result now pushed
-  given : (after.given ≡ last.given) ⊎ ((batch : Batch) × ReadsBatch last (Ok (Some batch)) after)
+-- batches that were pushed, where memory ran out at the last one
+record Kept (start : Flow) (program : Program) (given : List Batch) (mid : Flow) : Type 0 where
+  kept : List Batch
+  follows : Follows start program kept mid
+  cut : AreCut given kept
 
-unbroken : (start : Flow) (program : Program) (batches pushed : List Batch) (result : Result (Unit {0}) StreamFault)
-    (mid now : Flow) (last after : Inlet) → is_broken result ≡ false → EndsAt start batches last result after →
-    Pushed start program batches result mid → ArePushed start program batches result mid pushed →
-    Unbroken start program batches pushed result mid now last after
-unbroken start program batches pushed (Ok done) mid now last after is at follows are = record {
-  follows = follows;
-  all_pushed = are;
-  done = λ completed. completed;
-  told = are;
-  given = inl at.2;
-}
-unbroken start program batches pushed (Err (fault.Read why)) mid now last after is at follows are = record {
-  follows = follows;
-  all_pushed = are;
-  done = λ completed. completed;
-  told = are;
-  given = inl (none_more last after why at);
-}
-unbroken start program batches pushed (Err (fault.Transform stop.Full)) mid now last after is at follows are = record {
-  follows = follows;
-  all_pushed = are;
-  done = λ completed. completed;
-  told = are;
-  given = inr (at.1, at.2);
-}
-unbroken start program batches pushed (Err (fault.Transform stop.Memory)) mid now last after is at follows are =
-    record {
-      follows = follows;
-      all_pushed = are;
-      done = λ completed. completed;
-      told = are;
-      given = inr at;
+kept_first : (start : Flow) (program : Program) (given : List Batch) (mid : Flow) →
+    PushedFirst start program given mid → Kept start program given mid
+kept_first start program given mid first = by_pushes first.pushes
+  where
+    by_pushes : PushesFirst program first.last first.mid mid → Kept start program given mid
+    by_pushes (inl same) = record {
+      kept = first.before;
+      follows = subst (λ (f : Flow). Follows start program first.before f) (sym same) first.follows;
+      cut = record { before = first.before; last = first.last; given_are = first.are; pushed_are = inl refl };
     }
-unbroken start program batches pushed (Err (fault.Transform (stop.Output output why))) mid now last after is at follows
+    by_pushes (inr (count, lt, pushes)) = record {
+      kept = first.before ++ first_of count first.last ∷ [];
+      follows = one_follows start first.mid mid program first.before (first_of count first.last) first.follows pushes;
+      cut = record {
+        before = first.before;
+        last = first.last;
+        given_are = first.are;
+        pushed_are = inr (count, lt, refl);
+      };
+    }
+
+-- what waits is written, or an output partition fails there
+abbrev WhereEnded : Flow → Program → List Batch → List Batch → Flow → Flow → Type 0
+WhereEnded start program given pushed mid now = (output : ℕ) (why : OutletFault) →
+    EndsFlow mid (Err (stop.Output output why)) now →
+    Transformed start program given (Err (fault.Transform (stop.Output output why))) now
+    × ArePushed start program given (Err (fault.Transform (stop.Output output why))) now pushed
+
+-- What is known where no output partition failed before the end.
+record Unbroken (start : Flow) (program : Program) (given pushed : List Batch) (result : Result (Unit {0}) StreamFault)
+    (mid now : Flow) (last after : Inlet) : Type 0 where
+  done : EndsFlow mid (Ok tt) now → Transformed start program given result now
+  told : EndsFlow mid (Ok tt) now → ArePushed start program given result now pushed
+  failed : WhereEnded start program given pushed mid now
+  ended : (after.given ≡ last.given) ⊎ ((batch : Batch) × ReadsBatch last (Ok (Some batch)) after)
+
+-- an output partition failed at the end of all batches
+all_failed : (start : Flow) (program : Program) (given pushed : List Batch) (mid now : Flow) →
+    Follows start program given mid → given ≡ pushed → WhereEnded start program given pushed mid now
+all_failed start program given pushed mid now follows same output why ends = (
+  (given, record { are = inl refl; all = λ full. refl }, end_stops start mid now program given output why follows ends),
+  (mid, subst (λ (bs : List Batch). Follows start program bs mid) same follows, inl (same, ends)),
+)
+
+-- or where memory had run out
+cut_failed : (start : Flow) (program : Program) (given pushed : List Batch) (mid now : Flow) →
+    PushedFirst start program given mid → (failed : Batch) → given ≡ pushed ++ failed ∷ [] →
+    WhereEnded start program given pushed mid now
+cut_failed start program given pushed mid now first failed is output why ends =
+    let kept = kept_first start program given mid first in
+    let same = same_from_push first.before pushed first.last failed (sym first.are ∙ is) in (
+      (
+        kept.kept,
+        record { are = inr kept.cut; all = λ full. absurd (ends.0.here.0 full) },
+        end_stops start mid now program kept.kept output why kept.follows ends,
+      ),
+      (
+        first.mid,
+        subst (λ (bs : List Batch). Follows start program bs first.mid) same.0 first.follows,
+        inr (
+          failed,
+          is,
+          inr (mid, subst (λ (b : Batch). PushesFirst program b first.mid mid) same.1 first.pushes, ends),
+        ),
+      ),
+    )
+
+unbroken : (start : Flow) (program : Program) (given pushed : List Batch) (result : Result (Unit {0}) StreamFault)
+    (mid now : Flow) (last after : Inlet) → is_broken result ≡ false → EndsAt start given last result after →
+    Pushed start program given result mid → ArePushed start program given result mid pushed →
+    Unbroken start program given pushed result mid now last after
+unbroken start program given pushed (Ok done) mid now last after is at follows are = record {
+  done = written start mid now program given follows;
+  told = λ ends. are;
+  failed = all_failed start program given pushed mid now follows are;
+  ended = inl at.2;
+}
+unbroken start program given pushed (Err (fault.Read why)) mid now last after is at follows are = record {
+  done = written start mid now program given follows;
+  told = λ ends. are;
+  failed = all_failed start program given pushed mid now follows are;
+  ended = inl (none_more last after why at);
+}
+unbroken start program given pushed (Err (fault.Transform stop.Full)) mid now last after is at follows are = record {
+  done = written start mid now program given follows;
+  told = λ ends. are;
+  failed = all_failed start program given pushed mid now follows are;
+  ended = inr (at.1, at.2);
+}
+unbroken start program given pushed (Err (fault.Transform stop.Memory)) mid now last after is at first are =
+    let kept = kept_first start program given mid first in record {
+      done = λ ends. (kept.kept, kept.cut, written start mid now program kept.kept kept.follows ends);
+      told = λ ends. are;
+      failed = cut_failed start program given pushed mid now first are.0 are.1;
+      ended = inl (ap (λ (i : Inlet). i.given) at);
+    }
+unbroken start program given pushed (Err (fault.Transform (stop.Output output why))) mid now last after is at follows
     are = absurd cc
 
 module _ (program : Program) (first : Inlet) (start : Flow) (result : Result (Unit {0}) StreamFault) (after : Inlet)
@@ -354,8 +434,8 @@ module _ (program : Program) (first : Inlet) (start : Flow) (result : Result (Un
       TransformsWatched program first start result after now old new
   all_written whole ends =
       let all = watched.all in let tells = watched.told in let is = known whole in record {
-        all = (all.0, all.1, all.2, all.3, is.done (written start mid now program all.0 is.follows ends));
-        told = (tells.0, tells.1, is.told, tells.3, tells.4);
+        all = (all.0, all.1, all.2, all.3, is.done ends);
+        told = (tells.0, tells.1, is.told ends, tells.3, tells.4);
       }
 
   -- an output partition failed at the end
@@ -365,9 +445,9 @@ module _ (program : Program) (first : Inlet) (start : Flow) (result : Result (Un
   unwritten stop.Memory whole ends = absurd ends.0
   unwritten (stop.Output output why) whole ends =
       let all = watched.all in let tells = watched.told in let is = known whole in
-      let follows = subst (λ (bs : List Batch). Follows start program bs mid) is.all_pushed is.follows in record {
-        all = (all.0, all.1, all.2, is.given, end_stops start mid now program all.0 output why is.follows ends);
-        told = (tells.0, tells.1, (mid, follows, inl (is.all_pushed, ends)), tells.3, tells.4);
+      let both = is.failed output why ends in record {
+        all = (all.0, all.1, all.2, is.ended, both.0);
+        told = (tells.0, tells.1, both.1, tells.3, tells.4);
       }
 
 -- an output partition failed before the end, so that nothing more is written
@@ -376,7 +456,10 @@ pub stays_broken : (program : Program) (first : Inlet) (start : Flow) (result : 
     PushesWatched program first start result after now old new →
     TransformsWatched program first start result after now old new
 stays_broken program first start (Err (fault.Transform (stop.Output output why))) after now old new is watched =
-    record { all = watched.all; told = watched.told }
+    let all = watched.all in record {
+      all = (all.0, all.1, all.2, all.3, (all.0, record { are = inl refl; all = λ full. refl }, all.4));
+      told = watched.told;
+    }
 stays_broken program first start (Ok done) after now old new is watched = absurd cc
 stays_broken program first start (Err (fault.Read why)) after now old new is watched = absurd cc
 stays_broken program first start (Err (fault.Transform stop.Full)) after now old new is watched = absurd cc

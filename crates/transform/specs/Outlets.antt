@@ -46,11 +46,11 @@ pub record WroteBatches (old : Waiting) (before : Option (List ℕ)) (new : Wait
     pub are : AreBatches old batches new
     pub written : Appends before after (concat batches)
 
--- whole batches of the rows that waited were written, and a beginning of one more
+-- full batches of the rows that waited were written, and a beginning of one more batch
 pub record WrotePart (old : Waiting) (before after : Option (List ℕ)) : Type 0 where
   pub batches : List (List ℕ)
   pub rest : Waiting
-  pub are : AreBatches old batches rest
+  pub are : AreFull old batches rest
   pub count : ℕ
   pub next : List ℕ
   pub next_is : IsBatchOf rest count next
@@ -71,10 +71,20 @@ Stops old before fault.Memory after = (rest : Waiting) × WroteBatches old befor
 abbrev pub Fails : Waiting → Option (List ℕ) → OutletFault → Option (List ℕ) → Type 0
 Fails old before why after = (why ≢ fault.Full) × Stops old before why after
 
+-- The same where each whole batch is full, as it is where rows are put.
+abbrev pub StopsFull : Waiting → Option (List ℕ) → OutletFault → Option (List ℕ) → Type 0
+StopsFull old before fault.Write after = WrotePart old before after
+StopsFull old before fault.Full after = IsTooMany old × (rest : Waiting) × WroteFull old before rest after
+StopsFull old before fault.Memory after = (rest : Waiting) × WroteFull old before rest after
+
+-- the same where the fault is of the writer or of memory
+abbrev pub FailsFull : Waiting → Option (List ℕ) → OutletFault → Option (List ℕ) → Type 0
+FailsFull old before why after = (why ≢ fault.Full) × StopsFull old before why after
+
 -- Full batches were written, or the writer failed or memory ran out.
 abbrev pub PutsFull : Waiting → Option (List ℕ) → Result (Unit {0}) OutletFault → Waiting → Option (List ℕ) → Type 0
 PutsFull old before (Ok done) new after = WroteFull old before new after
-PutsFull old before (Err why) new after = Fails old before why after
+PutsFull old before (Err why) new after = FailsFull old before why after
 
 -- All rows that waited were written, or the writer failed or memory ran out.
 abbrev pub PutsAll : Waiting → Option (List ℕ) → Result (Unit {0}) OutletFault → Waiting → Option (List ℕ) → Type 0

@@ -7,9 +7,12 @@ use Rattle.machine_spec.specs.Image.{Program}
 use Rattle.batch.specs.Batches.{AreBatches}
 use Rattle.batch_reader.specs.{Readings.Inlet, Readings.left_of, Readings.ReadsBatch}
 use Rattle.transform.specs.declared.{stream.StreamFault.StreamFault, flow.TransformFault.TransformFault}
+use Rattle.transform.specs.declared.outlet.OutletFault.{OutletFault}
 use Rattle.transform.specs.declared.stream.StreamFault.TheVariants as fault
 use Rattle.transform.specs.declared.flow.TransformFault.TheVariants as stop
-use Rattle.transform.specs.Transforms.{Flow, Follows, Finished, Broken, CountsBatches, Pushes, EndsFlow, records_of}
+use Rattle.transform.specs.declared.outlet.OutletFault.TheVariants as outlet
+use Rattle.transform.specs.Transforms.{Flow, Follows, Finished, Broken, CountsBatches, Pushes, PushesFirst, EndsFlow}
+use Rattle.transform.specs.Transforms.{first_of, records_of}
 use Rattle.transform.specs.Tellings.{Telling, AddsTellings}
 
 -- where bytes are known, they begin with these batches, one after the other, and those are the others
@@ -34,24 +37,50 @@ is_broken (Err (fault.Transform stop.Full)) = false
 is_broken (Err (fault.Transform stop.Memory)) = false
 is_broken (Err (fault.Transform (stop.Output output why))) = true
 
+-- the last batch that the reader gave was not pushed, or not whole
+abbrev pub is_cut : Result (Unit {0}) StreamFault → Bool
+is_cut (Ok done) = false
+is_cut (Err (fault.Read why)) = false
+is_cut (Err (fault.Transform stop.Full)) = false
+is_cut (Err (fault.Transform stop.Memory)) = true
+is_cut (Err (fault.Transform (stop.Output output why))) = true
+
 -- What a reader did after the batches that were transformed, and so why no more are: it is at its end, or fails; or it
--- gave one batch more, which might reach the offset 2^62, or for which memory ran out. Where an output partition failed
--- it gave none more, or such a one.
+-- gave one batch more, which might reach the offset 2^62. Where memory ran out it did nothing more, and where an output
+-- partition failed it gave none more, or such a one.
 abbrev pub EndsAt : Flow → List Batch → Inlet → Result (Unit {0}) StreamFault → Inlet → Type 0
 EndsAt start batches old (Ok done) new = ReadsBatch old (Ok None) new
 EndsAt start batches old (Err (fault.Read why)) new = ReadsBatch old (Err why) new
 EndsAt start batches old (Err (fault.Transform stop.Full)) new =
     (TIMESTAMP_END < start.offset + records_of batches + MAX_RECORDS)
     × (batch : Batch) × ReadsBatch old (Ok (Some batch)) new
-EndsAt start batches old (Err (fault.Transform stop.Memory)) new =
-    (batch : Batch) × ReadsBatch old (Ok (Some batch)) new
+EndsAt start batches old (Err (fault.Transform stop.Memory)) new = new ≡ old
 EndsAt start batches old (Err (fault.Transform (stop.Output output why))) new =
     (new.given ≡ old.given) ⊎ ((batch : Batch) × ReadsBatch old (Ok (Some batch)) new)
 
--- Batches were pushed, unless an output partition failed.
+-- These batches were pushed of those that were given: all but the last one, and of that one nothing or the first
+-- records.
+pub record AreCut (given pushed : List Batch) : Type 0 where
+  pub before : List Batch
+  pub last : Batch
+  pub given_are : given ≡ before ++ last ∷ []
+  pub pushed_are : (pushed ≡ before)
+      ⊎ ((count : ℕ) × (count < length last.records) × (pushed ≡ before ++ first_of count last ∷ []))
+
+-- Batches were pushed, but at the last one memory ran out.
+pub record PushedFirst (start : Flow) (program : Program) (batches : List Batch) (now : Flow) : Type 0 where
+  pub before : List Batch
+  pub last : Batch
+  pub are : batches ≡ before ++ last ∷ []
+  pub mid : Flow
+  pub follows : Follows start program before mid
+  pub pushes : PushesFirst program last mid now
+
+-- Batches were pushed, unless memory ran out at the last one, or an output partition failed.
 abbrev pub Pushed : Flow → Program → List Batch → Result (Unit {0}) StreamFault → Flow → Type 0
 Pushed start program batches (Err (fault.Transform (stop.Output output why))) now =
     Broken start program batches now.outputs output why
+Pushed start program batches (Err (fault.Transform stop.Memory)) now = PushedFirst start program batches now
 Pushed start program batches result now = Follows start program batches now
 
 -- Batches were pushed, and all their rows written. Their records were counted, and the next one has the offset after
@@ -62,18 +91,27 @@ pub record Completed (start : Flow) (program : Program) (batches : List Batch) (
   pub outputs : Finished start program batches now.outputs
   pub counts : CountsBatches start program batches now.counts
 
--- Batches were pushed, and all their rows written, unless an output partition failed.
+-- What was pushed before an output partition failed: all batches that were given, or memory had run out at the last one.
+-- That is not so where an output partition is full.
+pub record AreOf (why : OutletFault) (given pushed : List Batch) : Type 0 where
+  pub are : (pushed ≡ given) ⊎ AreCut given pushed
+  pub all : why ≡ outlet.Full → pushed ≡ given
+
+-- Batches were pushed, and all their rows written, unless an output partition failed. Where memory ran out at the last
+-- batch, its first records were.
 abbrev pub Transformed : Flow → Program → List Batch → Result (Unit {0}) StreamFault → Flow → Type 0
 Transformed start program batches (Err (fault.Transform (stop.Output output why))) now =
-    Broken start program batches now.outputs output why
+    (pushed : List Batch) × AreOf why batches pushed × Broken start program pushed now.outputs output why
+Transformed start program batches (Err (fault.Transform stop.Memory)) now =
+    (pushed : List Batch) × AreCut batches pushed × Completed start program pushed now
 Transformed start program batches result now = Completed start program batches now
 
--- The batches that a reader gave were pushed: all up to its end, or those before a fault.
+-- The batches that a reader gave were pushed: all up to its end, or up to a fault.
 abbrev pub PushesAll : Program → Inlet → Flow → Result (Unit {0}) StreamFault → Inlet → Flow → Type 0
 PushesAll program reader start result after now = (batches : List Batch) × (mid : Inlet) × Gave reader batches mid
     × EndsAt start batches mid result after × Pushed start program batches result now
 
--- The batches that a reader gave were transformed: all up to its end, or those before a fault.
+-- The batches that a reader gave were transformed: all up to its end, or up to a fault.
 abbrev pub TransformsAll : Program → Inlet → Flow → Result (Unit {0}) StreamFault → Inlet → Flow → Type 0
 TransformsAll program reader start result after now = (batches : List Batch) × (mid : Inlet)
     × Gave reader batches mid × EndsAt start batches mid result after × Transformed start program batches result now
@@ -94,14 +132,18 @@ pub record AreTellings (reader : Inlet) (start : Flow) (batches : List Batch) (t
   pub each : (k : ℕ) (told : Telling) → slice_get tellings k ≡ Some told →
       IsToldAfter reader start (take (1 + k) batches) told
 
--- Which of the batches were pushed with success: all. Where an output partition failed, that was at the end of them
--- all, or at the last one, which is not among them then.
+-- Which of the batches were pushed with success: all. Where memory ran out, that was at the last one, which is not among
+-- them then. Where an output partition failed, that was at the end of them all, or at the last one, or at the end where
+-- memory ran out at the last one.
 abbrev pub ArePushed : Flow → Program → List Batch → Result (Unit {0}) StreamFault → Flow → List Batch → Type 0
 ArePushed start program batches (Err (fault.Transform (stop.Output output why))) now pushed =
     let failure : Result (Unit {0}) TransformFault = Err (stop.Output output why) in
     (mid : Flow) × Follows start program pushed mid
     × (((batches ≡ pushed) × EndsFlow mid failure now)
-    ⊎ ((failed : Batch) × (batches ≡ pushed ++ failed ∷ []) × Pushes program failed mid failure now))
+    ⊎ ((failed : Batch) × (batches ≡ pushed ++ failed ∷ []) × (Pushes program failed mid failure now
+    ⊎ ((half : Flow) × PushesFirst program failed mid half × EndsFlow half failure now))))
+ArePushed start program batches (Err (fault.Transform stop.Memory)) now pushed =
+    (failed : Batch) × (batches ≡ pushed ++ failed ∷ [])
 ArePushed start program batches result now pushed = batches ≡ pushed
 
 -- A watcher was told of each batch that was pushed with success, in order and once, and of nothing else.

@@ -14,7 +14,7 @@ use Rattle.batch_reader.specs.{Readings.Inlet, declared.reader.Position.Position
 use Rattle.batch_reader.specs.declared.reader.ReadFault.TheVariants as read
 use Rattle.transform.specs.{Backlogs.Waiting, Backlogs.waiting, Outlets.Outflow, Outlets.AreBatches as AreRowBatches}
 use Rattle.transform.specs.Transforms.{Flow, Follows, AreRows, AreFates, records_of}
-use Rattle.transform.specs.Streams.{Gave, PushesAll, is_broken}
+use Rattle.transform.specs.Streams.{Gave, PushesAll, is_cut}
 use Rattle.transform.specs.declared.{memory.Stop.Stop, memory.BatchPlace.BatchPlace, memory.Transformed.Transformed}
 use Rattle.transform.specs.declared.{memory.OutputBatches.OutputBatches, stream.StreamFault.StreamFault}
 use Rattle.transform.specs.declared.memory.Reached.{Reached}
@@ -133,12 +133,12 @@ bytes_in o = unwrap_or o.written []
 abbrev pub bytes_written : List Outflow → ℕ
 bytes_written outputs = sum_by (λ o. length (bytes_in o)) outputs
 
--- The batches that a reader gave were pushed, and this much had been given with them, unless an output partition
--- failed.
+-- The batches that a reader gave were pushed, and this much had been given with them, unless memory ran out or an output
+-- partition failed at the last one.
 pub record PushesTo (program : Program) (reader : Inlet) (start : Flow) (result : Result (Unit {0}) StreamFault)
     (after : Inlet) (now : Flow) (place : Position) : Type 0 where
   pub all : PushesAll program reader start result after now
-  pub placed : is_broken result ≡ false → place ≡ all.1.given
+  pub placed : is_cut result ≡ false → place ≡ all.1.given
 
 -- The batches up to a place were pushed, and more bytes than the limit are written.
 pub record PushesPast (program : Program) (limit : ℕ) (reader : Inlet) (start now : Flow) (place : Position) : Type 0

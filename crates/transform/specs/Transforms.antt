@@ -1,6 +1,6 @@
 -- A stream of record batches through a program, into output partitions.
-use Rattle.std.specs.Prelude.{◌≡◌, ◌≢◌, ℕ, ◌+◌, ◌<◌, ◌≤◌, List, [], ◌∷◌, ◌++◌, length, map, Some, None, Result, Ok, Err}
-use Rattle.std.specs.Prelude.{get_or}
+use Rattle.std.specs.Prelude.{◌≡◌, ◌≢◌, ◌⊎◌, ℕ, ◌+◌, ◌<◌, ◌≤◌, List, [], ◌∷◌, ◌++◌, length, map, take, Some, None, Result}
+use Rattle.std.specs.Prelude.{Ok, Err, get_or}
 use Rattle.wire_spec.specs.declared.record.Batch.{Batch}
 use Rattle.wire_spec.specs.declared.limits.TheConstants.{TIMESTAMP_END, MAX_RECORDS}
 use Rattle.machine_spec.specs.Image.{Program}
@@ -8,11 +8,11 @@ use Rattle.log_spec.specs.declared.row.Row.{Row}
 use Rattle.log_spec.specs.Logs.{Item as LogItem, Records, Marked, IsItemRows, IsRowsOf}
 use Rattle.fates.specs.{declared.fate.Fate.Fate, Fates.AreItemFates}
 use Rattle.fates.specs.Totals.{Totals, totals, AreCounts}
-use Rattle.item_rows.specs.{declared.origin.Origin.Origin, ItemRows.rows_in, ItemRows.AreItemRows}
+use Rattle.item_rows.specs.{declared.origin.Origin.Origin, ItemRows.rows_in, ItemRows.AreItemRows, Blocks.with_records}
 use Rattle.transform.specs.declared.{flow.TransformFault.TransformFault, outlet.OutletFault.OutletFault}
 use Rattle.transform.specs.declared.flow.TransformFault.TheVariants as fault
 use Rattle.transform.specs.Backlogs.{Waiting, waiting, with_rows}
-use Rattle.transform.specs.Outlets.{Outflow, outflow, WroteFull, WroteBatches, Stops, Fails}
+use Rattle.transform.specs.Outlets.{Outflow, outflow, WroteFull, WroteBatches, Stops, StopsFull, Fails}
 
 -- ---- the rows of batches
 
@@ -90,6 +90,14 @@ FillsSome rows old new = (rest : Waiting) × WroteBatches (with_rows old.waits r
 abbrev pub StopsFilling : List Row → Outflow → OutletFault → Outflow → Type 0
 StopsFilling rows old why new = Stops (with_rows old.waits rows) old.written why new.written
 
+-- full batches were written of those rows, and nothing else
+abbrev pub FillsFirst : List Row → Outflow → Outflow → Type 0
+FillsFirst rows old new = (rest : Waiting) × WroteFull (with_rows old.waits rows) old.written rest new.written
+
+-- a fault stopped that
+abbrev pub StopsFirst : List Row → Outflow → OutletFault → Outflow → Type 0
+StopsFirst rows old why new = StopsFull (with_rows old.waits rows) old.written why new.written
+
 -- in each output partition something holds of what it was and what it is
 pub record InEach (old new : List Outflow) (Holds : ℕ → Outflow → Outflow → Type 0) : Type 0 where
   pub count : length new ≡ length old
@@ -108,7 +116,7 @@ pub record InOne (old new : List Outflow) (output : ℕ) (Holds : Outflow → Ou
 abbrev pub PutsEach : List (List Row) → List Outflow → Result (Unit {0}) TransformFault → List Outflow → Type 0
 PutsEach all old (Ok done) new = InEach old new (λ output. Fills (rows_in all output))
 PutsEach all old (Err (fault.Output output why)) new =
-    InOne old new output (λ x. StopsFilling (rows_in all output) x why) (λ other. FillsSome (rows_in all other))
+    InOne old new output (λ x. StopsFirst (rows_in all output) x why) (λ other. FillsFirst (rows_in all other))
 PutsEach all old (Err fault.Full) new = ⊥
 PutsEach all old (Err fault.Memory) new = ⊥
 
@@ -122,18 +130,30 @@ CountsBatch program batch old counts =
     (fates : List Fate) × AreItemFates old.input (length old.outputs) (Some program) old.offset (Records batch) fates
     × AddsCounts old.counts fates counts
 
--- A batch was transformed: its rows were put into the output partitions, and its records counted. Or an output
--- partition failed, or nothing was done.
-abbrev pub Pushes : Program → Batch → Flow → Result (Unit {0}) TransformFault → Flow → Type 0
-Pushes program batch old (Ok done) new =
+-- A batch was transformed: its rows were put into the output partitions, and its records counted.
+abbrev pub PushesWhole : Program → Batch → Flow → Flow → Type 0
+PushesWhole program batch old new =
     (all : List (List Row)) × AreItemRows (origin_of old) (Some program) (Records batch) all
-    × PutsEach all old.outputs (Ok done) new.outputs × (new.input ≡ old.input)
+    × PutsEach all old.outputs (Ok tt) new.outputs × (new.input ≡ old.input)
     × (new.offset ≡ old.offset + length batch.records) × CountsBatch program batch old new.counts
+
+-- a batch of the first records of one
+abbrev pub first_of : ℕ → Batch → Batch
+first_of count batch = with_records batch (take count batch.records)
+
+-- Of a batch the first records were transformed, fewer than all; or nothing was done.
+abbrev pub PushesFirst : Program → Batch → Flow → Flow → Type 0
+PushesFirst program batch old new = (new ≡ old)
+    ⊎ ((count : ℕ) × (count < length batch.records) × PushesWhole program (first_of count batch) old new)
+
+-- A batch was transformed. Or an output partition failed, or memory ran out, or nothing was done.
+abbrev pub Pushes : Program → Batch → Flow → Result (Unit {0}) TransformFault → Flow → Type 0
+Pushes program batch old (Ok done) new = PushesWhole program batch old new
 Pushes program batch old (Err (fault.Output output why)) new =
     (all : List (List Row)) × AreItemRows (origin_of old) (Some program) (Records batch) all
     × PutsEach all old.outputs (Err (fault.Output output why)) new.outputs
 Pushes program batch old (Err fault.Full) new = (TIMESTAMP_END < old.offset + MAX_RECORDS) × (new ≡ old)
-Pushes program batch old (Err fault.Memory) new = new ≡ old
+Pushes program batch old (Err fault.Memory) new = PushesFirst program batch old new
 
 -- ---- the end
 
@@ -172,7 +192,7 @@ Stays old new = new ≡ old
 abbrev pub PutsOne : ℕ → List Row → List Outflow → Result (Unit {0}) TransformFault → List Outflow → Type 0
 PutsOne output rows old (Ok done) new = InOne old new output (Fills rows) (λ other. Stays)
 PutsOne output rows old (Err (fault.Output number why)) new =
-    (number ≡ output) × InOne old new output (λ x. StopsFilling rows x why) (λ other. Stays)
+    (number ≡ output) × InOne old new output (λ x. StopsFirst rows x why) (λ other. Stays)
 PutsOne output rows old (Err fault.Full) new = ⊥
 PutsOne output rows old (Err fault.Memory) new = ⊥
 

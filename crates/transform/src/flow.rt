@@ -1,16 +1,18 @@
 //! Record batches through a program, into output partitions.
 
 ghost use Rattle.std.specs.Prelude.{◌≡◌, ℕ, ◌+◌, ◌<◌, ◌≤◌, length, slice_get, All, Some, OnOk};
-ghost use Rattle.wire_spec.specs.declared.limits.TheConstants.{TIMESTAMP_END};
+ghost use Rattle.wire_spec.specs.declared.limits.TheConstants.{TIMESTAMP_END, MAX_RECORDS};
 ghost use Rattle.log_spec.specs.Logs.{FitsLog, RowFits};
-ghost use Rattle.item_rows.specs.ItemRows.{rows_in};
-ghost use Rattle.transform.specs.Transforms.{flow, none_counted, Pushes, PutsEach, PutsOne, EndsEach, EndsOne, EndsFlow};
+ghost use Rattle.item_rows.specs.ItemRows.{rows_in, IsOrigin};
+ghost use Rattle.item_rows.specs.Blocks.{IsPartOf, GiveRows};
+ghost use Rattle.transform.specs.Transforms.{flow, none_counted, origin_of, IsFlow, Pushes, PutsEach, PutsOne, EndsEach, EndsOne, EndsFlow};
+ghost use Rattle.transform.specs.Parts.{IsAt, PutsPart, PushesPart};
 
 use crate::outlet::{Outlet, OutletFault};
 use batch::PackedBatch;
 use fates::Counts;
-use item_rows::{Blocks, ItemRefs, Origin, RowRefs, item_refs_in};
-use log_item::{Item, LoggedBatch, Program};
+use item_rows::{Blocks, ItemRefs, Origin, Part, RowRefs, drop_rest, part_refs_in};
+use log_item::{LoggedBatch, Program};
 use std::alloc::{AllocError, Global};
 use std::io::Write;
 use std::marker::Model;
@@ -131,31 +133,100 @@ impl<W: Write> Transform<W> {
         (outlets, counts)
     }
 
+    // Where the next batch is.
+    fn origin(&self) -> Origin
+        ensures origin { result ≡ origin_of self.now }
+        ensures ranges { IsFlow self.now }
+    {
+        Origin {
+            input: self.input,
+            offset: self.offset,
+            outputs: self.outlets.len(),
+        }
+    }
+
+    // The allocator of what is run.
+    fn alloc(&self) -> Global {
+        self.blocks.alloc()
+    }
+
     /// Runs a program on the records of the next batch, in order, each once, counts what became of
     /// them, and puts the rows into the output partitions, which write each batch that has no room for
-    /// the next row. Rows that wait share no bytes with the batch. It fails where the batch might reach
-    /// the offset 2^62, or where memory runs out before a row is put; then nothing changes. It fails
-    /// with an output partition as `Outlet::put` does; then each output partition has written whole
-    /// batches of its rows, and that one maybe a beginning of one more.
+    /// the next row. Rows that wait share no bytes with the batch. It takes memory for the rows of a part of
+    /// the batch at a time. It fails where the batch might reach the offset 2^62; then nothing changes. It
+    /// fails where memory runs out; then nothing changes, or the first records were pushed and counted, and
+    /// no others. It fails with an output partition as `Outlet::put` does; then each output partition has
+    /// written whole batches of its rows, and that one maybe a beginning of one more.
     pub fn push(&mut self, program: &Program, batch: PackedBatch) -> Result<(), TransformFault>
         requires { FitsLog batch }
         ensures pushes { Pushes program.now batch self.old result self.new }
         ensures counted { OnOk result (self.new.counts.records ≡ self.old.counts.records + length batch.records) }
     {
-        if self.offset > TIMESTAMP_END - MAX_RECORDS as u64 {
+        if self.offset() > TIMESTAMP_END - MAX_RECORDS as u64 {
             return Err(TransformFault::Full);
         }
-        let batch = LoggedBatch::packed(self.blocks.alloc(), batch)?;
-        let origin = Origin {
-            input: self.input,
-            offset: self.offset,
-            outputs: self.outlets.len(),
-        };
-        let item = Item::Batch(batch);
-        let rows = item_refs_in(&mut self.blocks, &origin, Some(program), &item)?;
+        let batch = LoggedBatch::packed(self.alloc(), batch)?;
+        push_parts(program, &batch, self)
+    }
+
+    // Runs a program on some records of a batch, counts them, and puts their rows into the output partitions.
+    // The origin is the whole batch's.
+    fn put_part<'a>(
+        &mut self,
+        program: &'a Program,
+        origin: &'a Origin,
+        batch: &'a LoggedBatch,
+        part: Part,
+        rows: &mut ItemRefs<'a>,
+    ) -> Result<(), TransformFault>
+        requires at { IsAt origin.now part.first self.old }
+        requires origin { IsOrigin origin.now }
+        requires fits { FitsLog batch.now }
+        requires part { IsPartOf (length batch.now.records) part }
+        requires rows { length rows.old.rows ≡ origin.now.outputs }
+        ensures puts { PutsPart program.now origin.now batch.now part self.old result self.new }
+        ensures counted { OnOk result (self.new.counts.records ≡ self.old.counts.records + part.count) }
+        ensures rows { OnOk result (length rows.new.rows ≡ origin.now.outputs) }
+    {
+        part_refs_in(&mut self.blocks, origin, program, batch, part, rows)?;
         self.counts.add_all(rows.counts())?;
-        self.offset += item.records();
-        put_each(&rows, &mut self.outlets)
+        self.offset += part.count as u64;
+        put_each(rows, &mut self.outlets)
+    }
+
+    // Runs a program on the records of a batch from a number on, and drops what they emit.
+    fn drop_rest(&mut self, program: &Program, origin: &Origin, batch: &LoggedBatch, first: usize)
+        requires origin { IsOrigin origin.now }
+        requires within { first ≤ length batch.now.records }
+        ensures rows { GiveRows origin.now program.now batch.now first }
+        ensures same { self.new ≡ self.old }
+    {
+        drop_rest(&mut self.blocks, origin, program, batch, first);
+    }
+
+    // The same as `put_part`. Where an output partition fails, the records after these are run too.
+    fn push_part<'a>(
+        &mut self,
+        program: &'a Program,
+        origin: &'a Origin,
+        batch: &'a LoggedBatch,
+        part: Part,
+        rows: &mut ItemRefs<'a>,
+    ) -> Result<(), TransformFault>
+        requires at { IsAt origin.now part.first self.old }
+        requires origin { IsOrigin origin.now }
+        requires fits { FitsLog batch.now }
+        requires part { IsPartOf (length batch.now.records) part }
+        requires rows { length rows.old.rows ≡ origin.now.outputs }
+        ensures pushes { PushesPart program.now origin.now batch.now part self.old result self.new }
+        ensures counted { OnOk result (self.new.counts.records ≡ self.old.counts.records + part.count) }
+        ensures rows { OnOk result (length rows.new.rows ≡ origin.now.outputs) }
+    {
+        let put = self.put_part(program, origin, batch, part, rows);
+        if let Err(TransformFault::Output { .. }) = put {
+            self.drop_rest(program, origin, batch, part.first + part.count);
+        }
+        put
     }
 
     /// Writes the batches of all rows that wait. It fails with an output partition as `Outlet::end`
@@ -168,7 +239,30 @@ impl<W: Write> Transform<W> {
     }
 }
 
-// Puts the rows of an item into each output partition.
+// Runs a program on the records of a batch, one part after the other, and puts the rows of each into the output
+// partitions before the next one is run.
+fn push_parts<W: Write>(
+    program: &Program,
+    batch: &LoggedBatch,
+    stream: &mut Transform<W>,
+) -> Result<(), TransformFault>
+    requires { stream.old.offset + MAX_RECORDS ≤ TIMESTAMP_END }
+    ensures pushes { Pushes program.now batch.now stream.old result stream.new }
+    ensures counted { OnOk result (stream.new.counts.records ≡ stream.old.counts.records + length batch.now.records) }
+{
+    let total = batch.len();
+    let origin = stream.origin();
+    let mut rows = ItemRefs::none(stream.alloc(), origin.outputs, total)?;
+    let mut done = 0;
+    while done < total {
+        let part = Part::next(done, total);
+        stream.push_part(program, &origin, batch, part, &mut rows)?;
+        done += part.count;
+    }
+    Ok(())
+}
+
+// Puts rows into each output partition.
 fn put_each<W: Write>(rows: &ItemRefs, outlets: &mut [Outlet<W>]) -> Result<(), TransformFault>
     requires count { length rows.now.rows ≡ length outlets.old }
     requires fit { (output : ℕ) → output < length outlets.old → All RowFits (rows_in rows.now.rows output) }

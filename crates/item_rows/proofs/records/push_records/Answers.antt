@@ -1,18 +1,9 @@
-use Rattle.std.proofs.Common.{◌≡◌, ℕ, ◌-◌, [], drop, ap, sym, ◌∙◌, arith}
-use Rattle.std.proofs.lemmas.List.{append-nil}
+use Rattle.std.proofs.Common.{[], arith}
 use Rattle.item_rows.proofs.records.push_records.Goals as goal
 
 pub push_all-requires : goal.push_all-requires
 push_all-requires c =
-    let records = c.args.batch.now.records in let offset = c.args.origin.now.offset in
-    let fits = c.len-fits.ensures.fits in
-    let none : offset - offset ≡ 0 = omega arith in
-    record {
-      from = omega arith;
-      stand = record {
-        after = [];
-        are = ap (λ (n : ℕ). drop n records) none ∙ sym (append-nil records);
-      };
+    let fits = c.len-fits.ensures.fits in record {
       origin = c.requires;
       fits = fits.each;
       few = omega (arith, fits.count, c.requires.offset);

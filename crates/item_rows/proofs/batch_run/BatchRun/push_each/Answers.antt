@@ -1,47 +1,45 @@
 use Rattle.std.proofs.Common.{◌≡◌, ℕ, ◌+◌, ◌-◌, ◌<◌, ◌++◌, List, length, take, drop, get_or, sym, ap, subst, ◌∙◌, arith}
 use Rattle.std.proofs.Common.{[], ◌∷◌}
-use Rattle.std.proofs.lemmas.List.{take_more, length-take, length-drop, get_or-drop, get_or_default}
+use Rattle.std.proofs.lemmas.List.{take_more, length-take, length-drop}
 use Rattle.wire_spec.specs.declared.record.Record.{Record}
 use Rattle.machine_spec.specs.declared.outcome.Place.{Place}
 use Rattle.log_spec.specs.Logs.{IsRecordRows, place_of}
+use Rattle.log_spec.proofs.FittingBatches.{within_limits}
 use Rattle.fates.specs.Fates.{IsFate}
-use Rattle.item_rows.specs.{ItemRows.Adds, Blocks.program_in, Blocks.HaveRun}
-use Rattle.item_rows.proofs.BlockLaws.{one_fate, one_run, run_then, run_counted}
+use Rattle.item_rows.specs.{ItemRows.Adds, Blocks.records_from, Blocks.program_in, Blocks.HaveRun}
+use Rattle.item_rows.proofs.BlockLaws.{one_fate, one_run, run_then, run_counted, between_long}
+use Rattle.item_rows.proofs.PartLaws.{fits_at, found_after}
 use Rattle.item_rows.proofs.batch_run.BatchRun.push_each.Goals as goal
-use Rattle.exec.specs.Runs.{no_record}
 
 pub add-requires : goal.add-requires
 add-requires c =
-    let run = c.args.self.now in let first = c.args.first in let records = drop first run.batch.now.records in
+    let run = c.args.self.now in let first = c.args.part.first in let all = run.batch.now.records in
     let k = c.loop-number.number - first in
     omega (
       arith,
-      run_counted run (run.origin.now.offset + first) (take k records) c.args.all.now c.loop-number.all
+      run_counted run (run.origin.now.offset + first) (records_from first k all) c.args.all.now c.loop-number.all
           c.args.counts.now c.loop-number.counts c.loop-number.invariant,
-      length-take k records,
-      length-drop first run.batch.now.records,
+      between_long all first k (omega (arith, c.requires.part.within, c.loop-number-test.true)),
+      between_long all first c.args.part.count c.requires.part.within,
       c.requires.run.counted,
-      c.len-number-end.ensures.count,
       c.loop-number-test.true,
     )
 
--- a record is found by its number in what is left after the first ones
-found_after : (all : List Record) (first k number : ℕ) (given : Record) → number ≡ first + k → number < length all →
-    given ≡ get_or all number no_record → given ≡ get_or (drop first all) k given
-found_after all first k number given at lt is =
-    is
-    ∙ (get_or_default all number no_record given lt
-    ∙ (ap (λ (n : ℕ). get_or all n given) at ∙ sym (get_or-drop first all k given)))
+pub push_record-requires-clause-limits : goal.push_record-requires-clause-limits
+push_record-requires-clause-limits c =
+    within_limits c.new-found.result c.place-at.result
+    (fits_at c.args.self.now.batch.now c.loop-number.number c.new-found.result c.len-few.ensures.fits
+    (omega (arith, c.requires.part.within, c.loop-number-test.true)) c.new-found.ensures).limits
 
 pub loop-number-preserved : goal.loop-number-preserved
 loop-number-preserved c =
     let run = c.args.self.now in let input = run.origin.now.input in let outputs = run.origin.now.outputs in
-    let batch = run.batch.now in let first = c.args.first in let all = batch.records in
+    let batch = run.batch.now in let first = c.args.part.first in let all = batch.records in
     let records = drop first all in let offset = run.origin.now.offset + first in let number = c.loop-number.number in
     let k = number - first in let given = c.new-found.result in
     let old = c.loop-number.all in let new = c.push_record.new.all in let were = c.loop-number.counts in
     let are = c.add.new.self in let fate = c.in_ok-fate.fate in
-    let below : number < length all = omega (arith, c.len-number-end.ensures.count, c.loop-number-test.true) in
+    let below : number < length all = omega (arith, c.requires.part.within, c.loop-number-test.true) in
     let after : number ≡ first + k = omega arith in
     let lt : k < length records = omega (arith, below, after, length-drop first all) in
     let is : given ≡ get_or records k given = found_after all first k number given after below c.new-found.ensures in

@@ -6,7 +6,7 @@ use Rattle.item_rows.proofs.batch_run.BatchRun.references.Goals as goal
 
 pub loop-index-preserved : goal.loop-index-preserved
 loop-index-preserved c =
-    let all = c.args.self.now.batch.now.records in let first = c.args.first in let k = c.loop-index.index in
+    let all = c.args.self.now.batch.now.records in let first = c.args.part.first in let k = c.loop-index.index in
     let given = c.record.result in let rest = drop first all in let here = take k rest in
     let lt : k < length rest = omega (arith, c.requires, c.loop-index-test.true, length-drop first all) in
     let is : get_or rest k given ≡ given =

@@ -1,6 +1,6 @@
 use Rattle.std.proofs.Common.{◌-◌, ◌≤◌, length, take}
 use Rattle.item_rows.specs.Blocks.{HaveRun}
-use Rattle.item_rows.proofs.batch_run.BatchRun.push_blocks.Given as goal
+use Rattle.item_rows.proofs.batch_run.BatchRun.push_all.Given as goal
 
 abbrev pub invariant-loop-done : goal.invariant-loop-done
 invariant-loop-done l =
