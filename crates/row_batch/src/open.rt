@@ -9,11 +9,14 @@ ghost use Rattle.row_batch.specs.OpenBatches.{AddsIfRoom, base_with};
 use crate::front::{pad, with_front};
 use crate::records::put_if_room;
 use crate::rows::head;
-use batch::{HEADER, MAX_RECORDS, begin, finish};
+use batch::{HEADER, MAX_BATCH, MAX_RECORDS, begin, finish};
 use log_spec::RowRef;
 use std::alloc::{AllocError, Global};
 use std::marker::Model;
 use std::mem;
+
+/// From this size on a batch that is being filled has room for all bytes that it may have.
+const LARGE: usize = 65_536;
 
 /// A record batch of rows that is being filled. It keeps their records' bytes and no row, so that nothing
 /// of the batches that the rows came from stays. Contracts see the rows as the batch shows them.
@@ -92,6 +95,17 @@ impl OpenBatch {
         self.count += 1;
         self.latest = self.latest.max(row.timestamp);
         Ok(true)
+    }
+
+    /// Takes room for all bytes that a batch may have, where there are many already: of a list that grows by
+    /// steps holes would stay in memory. Where there is no such room, nothing changes.
+    pub fn make_room(&mut self)
+        ensures { self.new ≡ self.old }
+    {
+        let size = self.bytes.len();
+        if size > LARGE && self.bytes.capacity() < MAX_BATCH {
+            let _room = self.bytes.reserve_exact(MAX_BATCH - size);
+        }
     }
 
     /// The bytes of the batch, whose first row has this offset. Then it has no rows, and no room before

@@ -109,6 +109,7 @@ impl<W: Write> Outlet<W> {
         if rows.len() as u64 > self.backlog.room() {
             return Err(OutletFault::Full);
         }
+        self.backlog.make_room();
         put_rows(rows, &mut self.backlog, &mut self.writer)
     }
 

@@ -199,3 +199,62 @@ fn rows_take_no_more_bytes_than_the_limit(rt: HostRuntime) {
     };
     all_hold(&rt, first_wrong(alloc, &FORWARD, &LIMITS, is_right));
 }
+
+/// Each record goes to output 0 as it is, and its offset, as eight bytes, to output 1.
+static TWICE: [u8; 88] = [
+    0x85, 0, 0, 0, 7, 0, 0, 0, // call 7
+    0x7b, 0x0a, 0xf8, 0xff, 0, 0, 0, 0, // stx64 [r10-8], r0
+    0xb7, 1, 0, 0, 0, 0, 0, 0, // mov64 r1, 0
+    0x85, 0, 0, 0, 3, 0, 0, 0, // call 3
+    0xb7, 1, 0, 0, 1, 0, 0, 0, // mov64 r1, 1
+    0xbf, 0xa2, 0, 0, 0, 0, 0, 0, // mov64 r2, r10
+    0x07, 2, 0, 0, 0xf8, 0xff, 0xff, 0xff, // add64 r2, -8
+    0xb7, 3, 0, 0, 8, 0, 0, 0, // mov64 r3, 8
+    0x85, 0, 0, 0, 4, 0, 0, 0, // call 4
+    0xb7, 0, 0, 0, 0, 0, 0, 0, // mov64 r0, 0
+    0x95, 0, 0, 0, 0, 0, 0, 0, // exit
+];
+
+/// A number of records of a batch, and of each output the number of bytes and the checksum of its batch.
+type Parted = (usize, (usize, u32), (usize, u32));
+
+/// As a program in another language spells these batches.
+static PARTED: [Parted; 5] = [
+    (256, (2045, 0x191d_292c), (4093, 0x6659_7950)),
+    (257, (2053, 0xc02c_6e06), (4109, 0x751b_e506)),
+    (287, (2293, 0x431b_2e66), (4589, 0xe3ef_a167)),
+    (288, (2301, 0x6f19_c6da), (4605, 0xd2dd_14b4)),
+    (600, (4797, 0x2a9b_ac9f), (9597, 0x5a31_6352)),
+];
+
+/// The number of bytes of an output, and the checksum of its first batch.
+fn sum_of(output: &OutputBatches) -> (usize, u32) {
+    let mut sum = 0u32;
+    for byte in output.bytes.iter().skip(17).take(4) {
+        sum = sum.wrapping_mul(256).wrapping_add(u32::from(*byte));
+    }
+    (output.bytes.len(), sum)
+}
+
+fn have_sums(outputs: &[OutputBatches], want: &Parted) -> bool {
+    outputs.len() == 2 && sum_of(&outputs[0]) == want.1 && sum_of(&outputs[1]) == want.2
+}
+
+/// Whether the outputs of a batch of so many records have these checksums.
+fn is_parted(alloc: Global, program: &Program, want: &Parted) -> bool {
+    let Some(bytes) = bytes_of(alloc, &[(want.0, None)]) else {
+        return false;
+    };
+    let mut place = BatchPlace { batch: 0, byte: 0 };
+    match made(alloc, program, 0, &bytes, u64::MAX, &mut place) {
+        Ok(found) => have_sums(&found.outputs, want),
+        Err(_) => false,
+    }
+}
+
+#[test]
+fn parts_of_a_batch_give_its_rows_in_order(rt: HostRuntime) {
+    let alloc = rt.alloc();
+    let is_right = |program: &Program, row: &Parted| is_parted(alloc, program, row);
+    all_hold(&rt, first_wrong(alloc, &TWICE, &PARTED, is_right));
+}
