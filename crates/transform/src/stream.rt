@@ -60,9 +60,10 @@ impl Watch for Unwatched {
 
 /// Runs a program on all batches of a reader, one after the other, counts what became of their
 /// records, and writes all their rows. After a fault the rows of the batches before it are written too,
-/// and their records counted, unless an output partition failed: then each output partition has
-/// written whole batches of its rows, and that one maybe a beginning of one more. The reader gave no
-/// other batch but one that might reach the offset 2^62, or for which memory ran out.
+/// and their records counted, and where memory ran out those of the first records of the batch, unless an
+/// output partition failed: then each output partition has written whole batches of its rows, and that one
+/// maybe a beginning of one more. The reader gave no other batch but one that might reach the offset 2^62,
+/// or at which memory ran out.
 pub fn transform_all<R: Read, W: Write>(
     program: &Program,
     reader: &mut BatchReader<R>,
@@ -75,7 +76,7 @@ pub fn transform_all<R: Read, W: Write>(
 }
 
 /// The same. The watcher is told once after each batch that was pushed, and not of one at which an output
-/// partition failed.
+/// partition failed or memory ran out.
 pub fn transform_watched<R: Read, W: Write, V: Watch>(
     program: &Program,
     reader: &mut BatchReader<R>,
