@@ -1,0 +1,4 @@
+pub mod Parts
+pub mod Places
+pub mod Numbers
+pub mod Hashes

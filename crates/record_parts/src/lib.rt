@@ -1,0 +1,20 @@
+//! The parts of a record, as a program names them by numbers: how long they are, what bytes stand in them
+//! and where, which number their digits write, and how Kafka's clients hash them.
+//!
+//! All functions are pure and take no memory. A sum of a place and a length doesn't wrap: beyond the end
+//! of a part nothing is found. A part that a record hasn't has no bytes, and neither has a null one.
+#![tactic(auto)]
+
+mod decimals;
+mod finding;
+mod hashing;
+mod headers;
+mod part;
+mod ranges;
+
+pub use decimals::{MAX_DIGITS, decimal};
+pub use finding::{FIND_PLACES, find};
+pub use hashing::hash;
+pub use headers::header;
+pub use part::{Part, part_bytes, part_length};
+pub use ranges::{bytes_at, equals};

@@ -1,0 +1,75 @@
+//! Which part of a record a number names.
+
+ghost use Rattle.std.specs.Prelude.{◌≡◌};
+ghost use Rattle.record_parts.specs.Parts as definitions;
+
+use kafka_record::{NullableBytes, RecordRef};
+
+/// A part of a record.
+#[derive(Clone, Copy, Debug, PartialEq, Eq)]
+pub enum Part {
+    /// The value, number 0.
+    Value,
+    /// The key, number 1.
+    Key,
+    /// The key of the header at a position, from 0: number 2 + 2 * position.
+    HeaderKey(u64),
+    /// The value of the header at a position: number 3 + 2 * position.
+    HeaderValue(u64),
+}
+
+impl Part {
+    /// The part with a number.
+    pub fn numbered(number: u64) -> Part
+        ensures part { result ≡ definitions.part_numbered number }
+        ensures number { definitions.number_of result ≡ number }
+    {
+        match number {
+            0 => Part::Value,
+            1 => Part::Key,
+            _ if number % 2 == 0 => Part::HeaderKey(number / 2 - 1),
+            _ => Part::HeaderValue(number / 2 - 1),
+        }
+    }
+}
+
+/// The part of a record, if the record has it.
+pub(crate) fn part_of<'a>(given: &RecordRef<'a>, part: Part) -> Option<NullableBytes<'a>>
+    ensures { result ≡ definitions.part_of given.now part }
+{
+    match part {
+        Part::Value => Some(given.value()),
+        Part::Key => Some(given.key()),
+        Part::HeaderKey(position) => {
+            let header = given.headers().list.get(position as usize)?;
+            Some(NullableBytes::new(Some(&header.key)))
+        }
+        Part::HeaderValue(position) => {
+            let header = given.headers().list.get(position as usize)?;
+            Some(NullableBytes::of(&header.value))
+        }
+    }
+}
+
+/// The bytes of a part. A null one has none, and so has one that the record hasn't.
+pub fn part_bytes<'a>(given: &RecordRef<'a>, part: Part) -> &'a [u8]
+    ensures { result.now ≡ definitions.part_bytes given.now part }
+{
+    match part_of(given, part) {
+        Some(bytes) => bytes.as_slice().unwrap_or(&[]),
+        None => &[],
+    }
+}
+
+/// 0 where the record hasn't the part, 1 where it is null, else its length in bytes plus 2.
+pub fn part_length(given: &RecordRef, part: Part) -> u64
+    ensures { result ≡ definitions.part_length given.now part }
+{
+    match part_of(given, part) {
+        Some(bytes) => match bytes.as_slice() {
+            Some(bytes) => bytes.len() as u64 + 2,
+            None => 1,
+        },
+        None => 0,
+    }
+}
