@@ -44,4 +44,4 @@ part_length given part = length_answer (part_of given part)
 -- the position plus 1 of the first header with this key, else 0
 abbrev pub header_answer : Record → List ℕ → ℕ
 header_answer given key =
-    option_map_or (λ position. position + 1) (position (λ (header : Header). bytes_eq header.key key) given.headers) 0
+    option_map_or (λ k. k + 1) (position (λ (header : Header). bytes_eq header.key key) given.headers) 0

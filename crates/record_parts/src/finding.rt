@@ -11,7 +11,7 @@ use memchr::memmem;
 /// How many places a search looks at.
 pub const FIND_PLACES: usize = 4096;
 
-/// The bytes that a search from a place on looks at for so many bytes.
+/// The bytes from a place on that a search for so many bytes looks at.
 fn window(part: &[u8], start: usize, size: usize) -> &[u8]
     requires start { start ≤ length part.now }
     requires size { size < 2 ^ 63 }
@@ -21,7 +21,7 @@ fn window(part: &[u8], start: usize, size: usize) -> &[u8]
     &rest[..rest.len().min(size + (FIND_PLACES - 1))]
 }
 
-/// The same search in some bytes.
+/// What a search in some bytes answers.
 fn find_in(part: &[u8], place: u64, bytes: &[u8]) -> u64
     ensures { result ≡ find_answer part.now bytes.now place }
 {

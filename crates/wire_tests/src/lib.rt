@@ -13,6 +13,8 @@ mod feeds;
 #[cfg(test)]
 mod packed;
 #[cfg(test)]
+mod parts;
+#[cfg(test)]
 mod records;
 #[cfg(test)]
 mod refused;
