@@ -7,7 +7,7 @@ use Rattle.std.specs.{Option.option_map_or, List.starts_with}
 abbrev pub bytes_at : List ℕ → (place count : ℕ) → Option (List ℕ)
 bytes_at part place count = if nat_le (place + count) (length part) then Some (take count (drop place part)) else None
 
--- these bytes stand at a place of a part: what the part has from there on begins with them
+-- these bytes stand at a place of a part: it is one of the part's or its end, and what follows begins with them
 abbrev pub stand_at : (part bytes : List ℕ) → ℕ → Bool
 stand_at part bytes place = nat_le place (length part) && starts_with nat_eq (drop place part) bytes
 
