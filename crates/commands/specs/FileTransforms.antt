@@ -21,7 +21,6 @@ use Rattle.script.specs.Words.{word_at}
 use Rattle.commands.specs.declared.{halts.Halt.Halt, status.Status.Status}
 use Rattle.commands.specs.declared.halts.Halt.TheVariants as halt
 use Rattle.commands.specs.declared.status.Status.TheVariants.{Done, Refused, Failed}
-use Rattle.command_line.specs.Calls.{AreDistinct}
 use Rattle.commands.specs.{Files.KeepsAll, Images.first_bytes, Listings.source_of}
 use Rattle.commands.specs.Stops as stops
 
@@ -45,13 +44,24 @@ pub record HasRows (program : Program) (batches : List Batch) (outputs output : 
   pub bytes_are : bytes ≡ concat written
   pub all : broken ≡ false → rest.rows ≡ []
 
--- a name is of no output partition's file; the names of these are the words from the third on
-abbrev pub IsNoOutput : List (List ℕ) → List ℕ → Type 0
-IsNoOutput names other = (output : ℕ) → output + 2 < length names → other ≢ word_at names (output + 2)
+-- a name leads to no output partition's file; the names of these are the words from the third on
+abbrev pub IsNoOutput : (leads : List ℕ → List ℕ) → List (List ℕ) → List ℕ → Type 0
+IsNoOutput leads names other = (output : ℕ) → output + 2 < length names →
+    leads other ≢ leads (word_at names (output + 2))
 
 -- all files but those of the output partitions have the bytes that they had
-abbrev pub KeepsOthers : List (List ℕ) → (before after : List ℕ → Option (List ℕ)) → Type 0
-KeepsOthers names before after = (other : List ℕ) → IsNoOutput names other → after other ≡ before other
+abbrev pub KeepsOthers : (leads : List ℕ → List ℕ) → List (List ℕ) → (before after : List ℕ → Option (List ℕ)) →
+    Type 0
+KeepsOthers leads names before after = (other : List ℕ) → IsNoOutput leads names other → after other ≡ before other
+
+-- the name of a word leads to another file than each word before it
+abbrev pub IsApart : (leads : List ℕ → List ℕ) → List (List ℕ) → ℕ → Type 0
+IsApart leads names word = (earlier : ℕ) → earlier < word →
+    leads (word_at names word) ≢ leads (word_at names earlier)
+
+-- each output partition has a file of its own, which is neither the image nor the file of the batches
+abbrev pub AreApart : (leads : List ℕ → List ℕ) → List (List ℕ) → Type 0
+AreApart leads names = (output : ℕ) → output + 2 < length names → IsApart leads names (output + 2)
 
 -- one batch more might reach the offset 2^62, and the bytes begin with one
 abbrev pub IsAtLimit : List Batch → List ℕ → Type 0
@@ -107,6 +117,16 @@ status_of (Err (fault.Transform (stop.Output output outlet.Full))) = Refused
 status_of (Err (fault.Transform (stop.Output output outlet.Memory))) = Failed
 status_of (Err (fault.Transform (stop.Output output outlet.Write))) = Failed
 
+-- whether rows are kept: unless the writer of an output partition failed, or memory ran out for a batch of its rows
+abbrev pub keeps_rows : Result (Unit {0}) StreamFault → Bool
+keeps_rows (Ok done) = true
+keeps_rows (Err (fault.Read why)) = true
+keeps_rows (Err (fault.Transform stop.Full)) = true
+keeps_rows (Err (fault.Transform stop.Memory)) = true
+keeps_rows (Err (fault.Transform (stop.Output output outlet.Full))) = true
+keeps_rows (Err (fault.Transform (stop.Output output outlet.Memory))) = false
+keeps_rows (Err (fault.Transform (stop.Output output outlet.Write))) = false
+
 -- the status by what is reported
 abbrev pub status_of_halt : Halt → Status
 status_of_halt (halt.Image _) = Refused
@@ -126,6 +146,24 @@ abbrev pub StreamsAs : Program → List ℕ → ℕ → Status → (ℕ → Opti
 StreamsAs program bytes outputs status files = (status ≡ Failed) ⊎ ((result : Result (Unit {0}) StreamFault)
     × (status ≡ status_of result) × Transformed program bytes outputs result files)
 
+-- A file has what it had, or whole batches of the rows that a program gives to an output partition of the batches that
+-- bytes begin with.
+abbrev pub IsOldOrWritten : Program → List ℕ → (outputs output : ℕ) → (before after : Option (List ℕ)) → Type 0
+IsOldOrWritten program bytes outputs output before after = (after ≡ before) ⊎ ((batches : List Batch) × (rest : List ℕ)
+    × (broken : Bool) × AreBatches bytes batches rest × IfSome after (HasRows program batches outputs output broken))
+
+-- however a transform of known bytes ends, this holds of each output partition's file
+abbrev pub Leaves : Program → List ℕ → List (List ℕ) → (before after : List ℕ → Option (List ℕ)) → Type 0
+Leaves program bytes names before after = (output : ℕ) → output + 2 < length names →
+    IsOldOrWritten program bytes (length names - 2) output (before (word_at names (output + 2)))
+    (after (word_at names (output + 2)))
+
+-- what a transform of known bytes does to files, and its status
+abbrev pub Streams : Program → List ℕ → List (List ℕ) → Status → (before after : List ℕ → Option (List ℕ)) → Type 0
+Streams program bytes names status before after =
+    StreamsAs program bytes (length names - 2) status (λ output. after (word_at names (output + 2)))
+    × Leaves program bytes names before after
+
 -- The same of a program that may be refused.
 abbrev pub TransformsAs : Program → List ℕ → ℕ → Status → (ℕ → Option (List ℕ)) → Type 0
 TransformsAs program bytes outputs status files =
@@ -141,11 +179,21 @@ CallWrites table names stdin before after status = (image bytes : List ℕ) → 
     TransformsAs (program_of (first_bytes image) table) bytes (length names - 2) status
     (λ output. after (word_at names (output + 2)))
 
--- the same where no two of the names are the same; else nothing is said of the files
-abbrev pub CallTransforms : Table → List (List ℕ) → Option (List ℕ) → (List ℕ → Option (List ℕ)) →
-    (List ℕ → Option (List ℕ)) → Status → Type 0
-CallTransforms table names stdin before after status = AreDistinct names →
-    CallWrites table names stdin before after status
+-- however such a call ends, each output partition's file has what it had or whole batches of its rows
+abbrev pub CallLeaves : Table → List (List ℕ) → Option (List ℕ) → (List ℕ → Option (List ℕ)) →
+    (List ℕ → Option (List ℕ)) → Type 0
+CallLeaves table names stdin before after = (image bytes : List ℕ) → before (word_at names 0) ≡ Some image →
+    source_of (word_at names 1) stdin (before (word_at names 1)) ≡ Some bytes →
+    Leaves (program_of (first_bytes image) table) bytes names before after
+
+-- the image and the file of the batches have the bytes that they had
+abbrev pub KeepsSources : List (List ℕ) → (before after : List ℕ → Option (List ℕ)) → Type 0
+KeepsSources names before after = (word : ℕ) → word < 2 → after (word_at names word) ≡ before (word_at names word)
+
+-- All files have the bytes that they had, or each output partition has a file of its own.
+abbrev pub KeepsOrParts : (leads : List ℕ → List ℕ) → List (List ℕ) → (before after : List ℕ → Option (List ℕ)) →
+    Type 0
+KeepsOrParts leads names before after = KeepsAll before after ⊎ AreApart leads names
 
 -- where the image that the first word names has a program that is refused, all files have the bytes that they had
 abbrev pub KeepsIfRefused : Table → List (List ℕ) → (before after : List ℕ → Option (List ℕ)) → Type 0
@@ -190,3 +238,25 @@ HasWritten o file = (held : List ℕ) → o.written ≡ Some held → IfSome fil
 abbrev pub HaveWritten : List (List ℕ) → List outlets.Outflow → (List ℕ → Option (List ℕ)) → Type 0
 HaveWritten names outputs files = (output : ℕ) → output < length outputs → output + 2 < length names →
     HasWritten (output_at outputs output) (files (word_at names (output + 2)))
+
+-- each of these files has what it had, or what its writer had
+abbrev pub AreOldOrWritten : List (List ℕ) → List outlets.Outflow → (before after : List ℕ → Option (List ℕ)) → Type 0
+AreOldOrWritten names outputs before after = (output : ℕ) → output < length outputs → output + 2 < length names →
+    (after (word_at names (output + 2)) ≡ before (word_at names (output + 2)))
+    ⊎ HasWritten (output_at outputs output) (after (word_at names (output + 2)))
+
+-- How the files of a stream are ended: each has what it had or what its writer had, and where rows aren't kept, all
+-- have what they had.
+abbrev pub EndsFiles : List (List ℕ) → Result (Unit {0}) StreamFault → List outlets.Outflow →
+    (before after : List ℕ → Option (List ℕ)) → Type 0
+EndsFiles names ended outputs before after = KeepsAll before after
+    ⊎ ((keeps_rows ended ≡ true) × AreOldOrWritten names outputs before after)
+
+-- what one output partition's writer had another one's has
+abbrev pub HasSame : (one other : outlets.Outflow) → Type 0
+HasSame one other = (held : List ℕ) → one.written ≡ Some held → other.written ≡ Some held
+
+-- the same of each of these
+abbrev pub HaveSame : (ones others : List outlets.Outflow) → Type 0
+HaveSame ones others = (length others ≡ length ones)
+    × ((output : ℕ) → output < length ones → HasSame (output_at ones output) (output_at others output))

@@ -1,6 +1,6 @@
 //! Calls of the program.
 
-ghost use Rattle.std.specs.Prelude.{◌≡◌, ◌≢◌, ◌⊎◌, ℕ, List, Some, Ok, string_bytes};
+ghost use Rattle.std.specs.Prelude.{◌≡◌, ◌≢◌, ◌⊎◌, ℕ, List, Some, Ok, true, string_bytes};
 ghost use Rattle.std.specs.Io.KnownBytes.{Appends};
 ghost use Rattle.bpf_asm.specs.Images.{image_of};
 ghost use Rattle.commands.specs.declared.status.Status.TheVariants as exit;
@@ -15,7 +15,6 @@ ghost use Rattle.commands.specs.Texts as texts;
 
 use crate::asm::{read_text, utf8, write_image};
 use crate::dis::disassembly;
-use crate::distinct::transform_distinct;
 use crate::explaining::{no_code_text, refusal_text, status_of_explained};
 use crate::files::Files;
 use crate::host::Host;
@@ -26,6 +25,7 @@ use crate::rechecking::recheck;
 use crate::run::run_script;
 use crate::status::Status;
 use crate::telling::{print_text, tell, tell_memory, tell_refused, tell_text, tell_unread};
+use crate::transforming::transform;
 use crate::usage::{list_calls, tell_usage};
 use bpf_asm::{AsmFault, assemble};
 use command_line::{Call, ImageCall, Misuse, call_of};
@@ -250,45 +250,51 @@ fn tell_fault<E: Write>(alloc: Global, stderr: &mut E, fault: AsmFault) -> Statu
     }
 }
 
-/// Writes an image to a file, and answers the status. Files of other names stay.
+/// Writes the image of a file's text to another file, and answers the status.
 fn put_image<F: Files, E: Write>(
-    alloc: Global,
-    files: &mut F,
-    stderr: &mut E,
-    name: &str,
-    image: &[u8],
-) -> Status
-    ensures written { texts.WritesAs (Ok image.now) result (F.bytes files.old name.now) (F.bytes files.new name.now) }
-    ensures kept { KeepsBut name.now (F.bytes files.old) (F.bytes files.new) }
-{
-    match write_image(files, name, image) {
-        Ok(()) => Status::Done,
-        Err(unread) => tell_unread(alloc, stderr, name, unread),
-    }
-}
-
-/// Writes the image of a text to a file, or says why the text is refused, and writes no file; answers
-/// the status. Files of other names stay.
-#[tactic(auto, using(crate::proofs::Assembled::told_text))]
-fn assemble_text<F: Files, E: Write>(
     alloc: Global,
     files: &mut F,
     stderr: &mut E,
     text: &str,
     image: &str,
+    bytes: &[u8],
 ) -> Status
-    ensures written { texts.WritesAs (image_of text.now) result (F.bytes files.old image.now) (F.bytes files.new image.now) }
-    ensures refused { result ≡ exit.Refused → KeepsAll (F.bytes files.old) (F.bytes files.new) }
-    ensures kept { KeepsBut image.now (F.bytes files.old) (F.bytes files.new) }
+    ensures written { texts.WritesAs (Ok bytes.now) result (F.bytes files.old image.now) (F.bytes files.new image.now) }
+    ensures kept { KeepsBut F.leads image.now (F.bytes files.old) (F.bytes files.new) }
+    ensures failed { result ≢ exit.Done → KeepsAll (F.bytes files.old) (F.bytes files.new) }
+    ensures apart { F.tells ≡ true → result ≡ exit.Done → F.leads text.now ≢ F.leads image.now }
 {
-    match assemble(alloc, text) {
-        Ok(bytes) => put_image(alloc, files, stderr, image, &bytes),
+    match write_image(files, text, image, bytes) {
+        Ok(()) => Status::Done,
+        Err(unread) => tell_unread(alloc, stderr, image, unread),
+    }
+}
+
+/// Writes the image of a file's text to another file, or says why the text is refused, and writes no file; answers
+/// the status.
+#[tactic(auto, using(crate::proofs::Assembled::told_text))]
+fn assemble_text<F: Files, E: Write>(
+    alloc: Global,
+    files: &mut F,
+    stderr: &mut E,
+    source: &str,
+    text: &str,
+    image: &str,
+) -> Status
+    ensures written { texts.WritesAs (image_of source.now) result (F.bytes files.old image.now) (F.bytes files.new image.now) }
+    ensures kept { KeepsBut F.leads image.now (F.bytes files.old) (F.bytes files.new) }
+    ensures failed { result ≢ exit.Done → KeepsAll (F.bytes files.old) (F.bytes files.new) }
+    ensures apart { F.tells ≡ true → result ≡ exit.Done → F.leads text.now ≢ F.leads image.now }
+{
+    match assemble(alloc, source) {
+        Ok(bytes) => put_image(alloc, files, stderr, text, image, &bytes),
         Err(fault) => tell_fault(alloc, stderr, fault),
     }
 }
 
-/// Writes the image of the text in a file to another file, or says why the text is refused or can't be
-/// read, and writes no file; answers the status. Files of other names stay.
+/// Writes the image of the text in a file to another file, or says why the text is refused or can't be read, and
+/// writes no file; answers the status. All files stay but the image's, and that too where the status is another than
+/// `Done`; both names lead to two files where it is.
 #[tactic(auto, using(crate::proofs::Kept::kept))]
 fn assemble_file<F: Files, E: Write>(
     alloc: Global,
@@ -299,11 +305,12 @@ fn assemble_file<F: Files, E: Write>(
 ) -> Status
     ensures written { (bytes : List ℕ) → F.bytes files.old text.now ≡ Some bytes
         → texts.WritesAs (image_of bytes) result (F.bytes files.old image.now) (F.bytes files.new image.now) }
-    ensures refused { result ≡ exit.Refused → KeepsAll (F.bytes files.old) (F.bytes files.new) }
-    ensures kept { KeepsBut image.now (F.bytes files.old) (F.bytes files.new) }
+    ensures kept { KeepsBut F.leads image.now (F.bytes files.old) (F.bytes files.new) }
+    ensures failed { result ≢ exit.Done → KeepsAll (F.bytes files.old) (F.bytes files.new) }
+    ensures apart { F.tells ≡ true → result ≡ exit.Done → F.leads text.now ≢ F.leads image.now }
 {
     match read_text(alloc, files, text) {
-        Ok(source) => assemble_text(alloc, files, stderr, source.as_str(), image),
+        Ok(source) => assemble_text(alloc, files, stderr, source.as_str(), text, image),
         Err(unread) => tell_unread(alloc, stderr, text, unread),
     }
 }
@@ -336,7 +343,7 @@ pub fn command<R: Threads + Wait + Sync, F: Files, I: Read, O: Write, E: Write>(
         Ok(Call::List(listing, file)) => list(host, listing, file),
         Ok(Call::Recheck(list)) => recheck(host, list),
         Ok(Call::Run(script)) => run(rt, host, script),
-        Ok(Call::Transform(table, words)) => transform_distinct(host, table, words),
+        Ok(Call::Transform(table, words)) => transform(host, table, words),
         Err(Misuse::Usage) => tell_usage(&mut host.stderr).status,
         Err(Misuse::Memory) => tell_memory(&mut host.stderr),
     }

@@ -1,17 +1,21 @@
 //! The files that a command reads and writes.
 
-ghost use Rattle.std.specs.Prelude.{◌≡◌, ℕ, Bool, true, false, List, [], Option, Some, None, IfOk, OnOk, IfSome};
-ghost use Rattle.commands.specs.Files.{KeepsAll, KeepsBut};
+ghost use Rattle.std.specs.Prelude.{◌≡◌, ℕ, Bool, true, false, List, [], Option, Some, None, IfOk, OnOk, OnErr, IfSome};
+ghost use Rattle.commands.specs.Files.{KeepsAll, KeepsBut, TellsOne};
 
+use crate::endpoint::Endpoint;
 use std::io;
 use std::io::{Read, Write};
 
-/// Where named files are: the system's, or a test's own.
+/// Where named files are: the system's, or a test's own. Several names may lead to one file.
 pub trait Files {
     /// The bytes that a named file has, where they are known.
     ghost bytes: { Self → List ℕ → Option (List ℕ) } = { λ _ _. None };
 
-    /// Whether what is written to a file piece by piece is known.
+    /// Which file a name leads to: names of one file lead to the same.
+    ghost leads: { List ℕ → List ℕ } = { λ name. name };
+
+    /// Whether it is known what is written to a file piece by piece, and which names lead to one file.
     ghost tells: { Bool } = { false };
 
     /// What an opened file is read by.
@@ -23,33 +27,33 @@ pub trait Files {
         ensures read { (known : List ℕ) → bytes self.old name.now ≡ Some known → IfOk result (λ reader. Self.Reader.remaining reader ≡ Some known) }
         ensures kept { KeepsAll (bytes self.old) (bytes self.new) };
 
-    /// Makes a file hold these bytes and no others, or fails as `open` does. Files of other names stay.
+    /// Whether two endpoints are one file, so that what is written to one is lost to the other. It fails as `open`
+    /// does.
+    fn are_one(&self, one: Endpoint<'_>, other: Endpoint<'_>) -> io::Result<bool>
+        ensures { tells ≡ true → IfOk result (TellsOne leads one.entry other.entry) };
+
+    /// Makes a file hold these bytes and no others, or fails as `open` does and changes no file. Other files stay.
     fn write(&mut self, name: &str, content: &[u8]) -> io::Result<()>
         ensures held { OnOk result (IfSome (bytes self.new name.now) (λ known. known ≡ content.now)) }
-        ensures kept { KeepsBut name.now (bytes self.old) (bytes self.new) };
+        ensures kept { KeepsBut leads name.now (bytes self.old) (bytes self.new) }
+        ensures failed { OnErr result (KeepsAll (bytes self.old) (bytes self.new)) };
 
-    /// What a file is written by, piece by piece.
+    /// What a file is written by, piece by piece. `flush` puts the pieces where they outlast the program. One that is
+    /// dropped, and not closed, leaves its file as it was.
     type Writer: Write + Drop;
 
-    /// Makes a file empty, to be written piece by piece; the name `stdout` is standard output. It fails
-    /// as `open` does. Files of other names stay.
+    /// Begins a file anew, to be written piece by piece; the name `stdout` is standard output. Until `close` each file
+    /// has the bytes that it had. It fails as `open` does.
     fn create(&mut self, name: &str) -> io::Result<Self::Writer>
         ensures empty { tells ≡ true → IfOk result (λ writer. Self.Writer.contents writer ≡ Some []) }
-        ensures kept { KeepsBut name.now (bytes self.old) (bytes self.new) };
+        ensures kept { KeepsAll (bytes self.old) (bytes self.new) };
 
-    /// Ends a file that was created under this name: it holds what its writer has, or the call fails as
-    /// `open` does. Files of other names stay.
+    /// Ends a file that was begun under this name: it holds what its writer has, or the call fails as `open` does and
+    /// changes no file. Other files stay.
     fn close(&mut self, name: &str, writer: Self::Writer) -> io::Result<()>
         ensures held { (held : List ℕ) → Self.Writer.contents writer ≡ Some held → OnOk result (IfSome (bytes self.new name.now) (λ known. known ≡ held)) }
-        ensures kept { KeepsBut name.now (bytes self.old) (bytes self.new) };
-
-    /// Takes note that standard input is read, so that `create` may refuse the file behind it. It changes no file, and
-    /// fails only where memory runs out.
-    fn take_stdin(&mut self) -> io::Result<()>
-        ensures kept { KeepsAll (bytes self.old) (bytes self.new) }
-    {
-        Ok(())
-    }
+        ensures kept { KeepsBut leads name.now (bytes self.old) (bytes self.new) }
+        ensures failed { OnErr result (KeepsAll (bytes self.old) (bytes self.new)) };
 
     /// Milliseconds since some time, where somebody watches standard error. It changes no file.
     fn watched(&self) -> Option<u64> {

@@ -1,18 +1,18 @@
 //! Record batches of a file through a program, into files.
 
-ghost use Rattle.std.specs.Prelude.{◌≡◌, ◌≤◌, ◌+◌, ◌-◌, ◌⊎◌, ℕ, List, [], Some, true, length, IfErr};
+ghost use Rattle.std.specs.Prelude.{◌≡◌, ◌≤◌, ◌+◌, ◌⊎◌, ℕ, List, [], Some, true, length, IfErr, OnOk};
 ghost use Rattle.machine_spec.specs.Image as images;
 ghost use Rattle.annotate.specs.Loads.{FaultIs};
 ghost use Rattle.batch.specs.Streams.{Open};
 ghost use Rattle.batch_reader.specs.Readings.{IsOpen, inlet, none_given};
 ghost use Rattle.transform.specs.Streams.{TransformsAll};
 ghost use Rattle.script.specs.Words.{word_at};
-ghost use Rattle.command_line.specs.Calls.{names_of, AreDistinct};
+ghost use Rattle.command_line.specs.Calls.{names_of};
 ghost use Rattle.commands.specs.declared.status.Status.TheVariants.{Failed};
-ghost use Rattle.commands.specs.FileTransforms.{KeepsOthers, KeepsIfRefused, is_after_image};
+ghost use Rattle.commands.specs.FileTransforms.{KeepsOthers, KeepsIfRefused, KeepsOrParts, KeepsSources, is_after_image};
 ghost use Rattle.commands.specs.Files.{KeepsAll};
-ghost use Rattle.commands.specs.FileTransforms.{StreamsAs, CallTransforms, IsLoaded, IsUnloaded, HaveWritten};
-ghost use Rattle.commands.specs.FileTransforms.{status_of, status_of_ended};
+ghost use Rattle.commands.specs.FileTransforms.{Streams, CallWrites, CallLeaves, IsLoaded, IsUnloaded, HaveWritten};
+ghost use Rattle.commands.specs.FileTransforms.{AreApart, EndsFiles, keeps_rows, status_of, status_of_ended, status_of_halt};
 ghost use Rattle.commands.specs.Images.{first_bytes};
 ghost use Rattle.commands.specs.Listings.{source_of};
 
@@ -21,7 +21,7 @@ use crate::files::Files;
 use crate::halts::{Ending, Halt, INPUT, halted, tell_halt, unused};
 use crate::host::Host;
 use crate::image::{Refused, read_image, refusal_of};
-use crate::output_files::{close_all, create_all, name_at};
+use crate::output_files::{begin_all, close_all, name_at};
 use crate::progress::Progress;
 use crate::reading::Unread;
 use crate::status::Status;
@@ -33,7 +33,9 @@ use log_spec::MAX_PARTITIONS;
 use machine_spec::Table;
 use std::alloc::Global;
 use std::io::{Read, Write};
-use transform::{StreamFault, Transform, rows_of_a_log, transform_watched};
+use transform::{
+    OutletFault, StreamFault, Transform, TransformFault, rows_of_a_log, transform_watched,
+};
 use verifier_spec::LoadFault;
 use wire_spec::MAX_PIECE;
 
@@ -93,6 +95,41 @@ fn run<F: Files, R: Read, E: Write>(
     transform_watched(program, batches, stream, &mut progress)
 }
 
+/// Whether the rows of the batches before a fault are kept: unless the writer of an output partition failed, or memory
+/// ran out for a batch of its rows.
+fn keeps_rows(ended: Result<(), StreamFault>) -> bool
+    ensures { result ≡ keeps_rows ended }
+{
+    match ended {
+        Err(StreamFault::Transform(TransformFault::Output { fault, .. })) => {
+            matches!(fault, OutletFault::Full)
+        }
+        _ => true,
+    }
+}
+
+/// Ends the files of a stream that ended so; where its rows aren't kept, all files stay.
+fn end_files<F: Files>(
+    alloc: Global,
+    files: &mut F,
+    words: &[String],
+    stream: Transform<F::Writer>,
+    ended: Result<(), StreamFault>,
+) -> Result<(), Halt>
+    ensures held { AreApart F.leads (names_of words.now) → (status_of ended ≡ Failed)
+        ⊎ OnOk result (HaveWritten (names_of words.now) stream.outputs (F.bytes files.new)) }
+    ensures each { AreApart F.leads (names_of words.now) → EndsFiles (names_of words.now) ended stream.outputs (F.bytes files.old) (F.bytes files.new) }
+    ensures kept { KeepsOthers F.leads (names_of words.now) (F.bytes files.old) (F.bytes files.new) }
+    ensures err { IfErr result (λ halt. status_of_halt halt ≡ Failed) }
+    ensures after { IfErr result (λ halt. is_after_image halt ≡ true) }
+{
+    if keeps_rows(ended) {
+        close_all(alloc, files, words, stream.into_outlets())
+    } else {
+        Ok(())
+    }
+}
+
 /// Ends the files of a stream that ended so, and says how many records and rows there were.
 fn finish<F: Files, E: Write>(
     alloc: Global,
@@ -102,15 +139,23 @@ fn finish<F: Files, E: Write>(
     stream: Transform<F::Writer>,
     ending: Ending,
 ) -> Result<(), Halt>
-    ensures held { (status_of_ended result ≡ Failed) ⊎ ((status_of_ended result ≡ status_of ending.ended)
-        × (AreDistinct (names_of words.now) → HaveWritten (names_of words.now) stream.outputs (F.bytes files.new))) }
-    ensures kept { KeepsOthers (names_of words.now) (F.bytes files.old) (F.bytes files.new) }
+    ensures held { AreApart F.leads (names_of words.now) → (status_of_ended result ≡ Failed) ⊎ ((status_of_ended result ≡ status_of ending.ended)
+        × HaveWritten (names_of words.now) stream.outputs (F.bytes files.new)) }
+    ensures each { AreApart F.leads (names_of words.now) → EndsFiles (names_of words.now) ending.ended stream.outputs (F.bytes files.old) (F.bytes files.new) }
+    ensures kept { KeepsOthers F.leads (names_of words.now) (F.bytes files.old) (F.bytes files.new) }
     ensures after { IfErr result (λ halt. is_after_image halt ≡ true) }
 {
     let counts = counts_text(alloc, &stream, ending.position.batches);
-    close_all(files, words, stream.into_outlets())?;
-    say_counts(stderr, counts);
-    halted(ending)
+    match end_files(alloc, files, words, stream, ending.ended) {
+        Ok(()) => {
+            say_counts(stderr, counts);
+            halted(ending)
+        }
+        Err(halt) => {
+            say_counts(stderr, counts);
+            Err(halt)
+        }
+    }
 }
 
 /// Runs a program on a reader's batches into files, and says how many there were. The words are those of
@@ -127,24 +172,29 @@ fn write_batches<F: Files, R: Read, E: Write>(
     requires some { 3 ≤ length words.now }
     requires few { length words.now ≤ MAX_PARTITIONS + 2 }
     requires open { IsOpen batches.old }
-    ensures written { F.tells ≡ true → AreDistinct (names_of words.now) → (bytes : List ℕ) → batches.old ≡ inlet (Open []) (Some bytes) none_given
-        → StreamsAs program.now bytes (length (names_of words.now) - 2) (status_of_ended result) (λ output. F.bytes files.new (word_at (names_of words.now) (output + 2))) }
-    ensures kept { KeepsOthers (names_of words.now) (F.bytes files.old) (F.bytes files.new) }
+    ensures written { F.tells ≡ true → (bytes : List ℕ) → batches.old ≡ inlet (Open []) (Some bytes) none_given
+        → Streams program.now bytes (names_of words.now) (status_of_ended result) (F.bytes files.old) (F.bytes files.new) }
+    ensures parts { F.tells ≡ true → KeepsOrParts F.leads (names_of words.now) (F.bytes files.old) (F.bytes files.new) }
+    ensures kept { KeepsOthers F.leads (names_of words.now) (F.bytes files.old) (F.bytes files.new) }
     ensures after { IfErr result (λ halt. is_after_image halt ≡ true) }
 {
     rows_of_a_log();
-    let outlets = create_all(alloc, files, words)?;
-    let mut stream = Transform::new(alloc, 0, 0, outlets);
-    let ended = run(alloc, files, stderr, program, batches, &mut stream);
-    let position = batches.position();
-    finish(
-        alloc,
-        files,
-        stderr,
-        words,
-        stream,
-        Ending { ended, position },
-    )
+    match begin_all(alloc, files, words) {
+        Ok(outlets) => {
+            let mut stream = Transform::new(alloc, 0, 0, outlets);
+            let ended = run(alloc, files, stderr, program, batches, &mut stream);
+            let position = batches.position();
+            finish(
+                alloc,
+                files,
+                stderr,
+                words,
+                stream,
+                Ending { ended, position },
+            )
+        }
+        Err(halt) => Err(halt),
+    }
 }
 
 /// The same of a reader's bytes.
@@ -158,44 +208,16 @@ fn write_files<F: Files, R: Read + Drop, E: Write>(
 ) -> Result<(), Halt>
     requires some { 3 ≤ length words.now }
     requires few { length words.now ≤ MAX_PARTITIONS + 2 }
-    ensures written { F.tells ≡ true → AreDistinct (names_of words.now) → (bytes : List ℕ) → R.remaining reader ≡ Some bytes
-        → StreamsAs program.now bytes (length (names_of words.now) - 2) (status_of_ended result) (λ output. F.bytes files.new (word_at (names_of words.now) (output + 2))) }
-    ensures kept { KeepsOthers (names_of words.now) (F.bytes files.old) (F.bytes files.new) }
+    ensures written { F.tells ≡ true → (bytes : List ℕ) → R.remaining reader ≡ Some bytes
+        → Streams program.now bytes (names_of words.now) (status_of_ended result) (F.bytes files.old) (F.bytes files.new) }
+    ensures parts { F.tells ≡ true → KeepsOrParts F.leads (names_of words.now) (F.bytes files.old) (F.bytes files.new) }
+    ensures kept { KeepsOthers F.leads (names_of words.now) (F.bytes files.old) (F.bytes files.new) }
     ensures after { IfErr result (λ halt. is_after_image halt ≡ true) }
 {
     match BatchReader::new(alloc, reader, MAX_PIECE) {
         Ok(mut batches) => write_batches(alloc, files, stderr, program, words, &mut batches),
         Err(_) => Err(Halt::Memory),
     }
-}
-
-/// The same of standard input, of which the files take note before one is created.
-fn write_stdin<F: Files, I: Read, O, E: Write>(
-    host: &mut Host<F, I, O, E>,
-    program: &Program,
-    words: &[String],
-) -> Result<(), Halt>
-    requires some { 3 ≤ length words.now }
-    requires few { length words.now ≤ MAX_PARTITIONS + 2 }
-    ensures written { F.tells ≡ true → AreDistinct (names_of words.now) → (bytes : List ℕ)
-        → I.remaining host.old.stdin ≡ Some bytes
-        → StreamsAs program.now bytes (length (names_of words.now) - 2) (status_of_ended result)
-        (λ output. F.bytes host.new.files (word_at (names_of words.now) (output + 2))) }
-    ensures kept { KeepsOthers (names_of words.now) (F.bytes host.old.files) (F.bytes host.new.files) }
-    ensures after { IfErr result (λ halt. is_after_image halt ≡ true) }
-    ensures stdout { host.new.stdout ≡ host.old.stdout }
-{
-    if let Err(error) = host.files.take_stdin() {
-        return Err(unused(INPUT, &error));
-    }
-    let Host {
-        alloc,
-        files,
-        stdin,
-        stderr,
-        ..
-    } = host;
-    write_files(*alloc, files, stdin, stderr, program, words)
 }
 
 /// The same of the file of the second word; the name `stdin` is standard input.
@@ -206,27 +228,27 @@ fn write_source<F: Files, I: Read, O, E: Write>(
 ) -> Result<(), Halt>
     requires some { 3 ≤ length words.now }
     requires few { length words.now ≤ MAX_PARTITIONS + 2 }
-    ensures written { F.tells ≡ true → AreDistinct (names_of words.now) → (bytes : List ℕ)
+    ensures written { F.tells ≡ true → (bytes : List ℕ)
         → source_of (word_at (names_of words.now) 1) (I.remaining host.old.stdin) (F.bytes host.old.files (word_at (names_of words.now) 1)) ≡ Some bytes
-        → StreamsAs program.now bytes (length (names_of words.now) - 2) (status_of_ended result) (λ output. F.bytes host.new.files (word_at (names_of words.now) (output + 2))) }
-    ensures kept { KeepsOthers (names_of words.now) (F.bytes host.old.files) (F.bytes host.new.files) }
+        → Streams program.now bytes (names_of words.now) (status_of_ended result) (F.bytes host.old.files) (F.bytes host.new.files) }
+    ensures parts { F.tells ≡ true → KeepsOrParts F.leads (names_of words.now) (F.bytes host.old.files) (F.bytes host.new.files) }
+    ensures kept { KeepsOthers F.leads (names_of words.now) (F.bytes host.old.files) (F.bytes host.new.files) }
     ensures after { IfErr result (λ halt. is_after_image halt ≡ true) }
     ensures stdout { host.new.stdout ≡ host.old.stdout }
 {
+    let Host {
+        alloc,
+        files,
+        stdin,
+        stderr,
+        ..
+    } = host;
     let input = name_at(words, INPUT);
     if input == "stdin" {
-        return write_stdin(host, program, words);
+        return write_files(*alloc, files, stdin, stderr, program, words);
     }
-    match host.files.open(input) {
-        Ok(reader) => {
-            let Host {
-                alloc,
-                files,
-                stderr,
-                ..
-            } = host;
-            write_files(*alloc, files, reader, stderr, program, words)
-        }
+    match files.open(input) {
+        Ok(reader) => write_files(*alloc, files, reader, stderr, program, words),
         Err(error) => Err(unused(INPUT, &error)),
     }
 }
@@ -241,8 +263,10 @@ fn transform_files<F: Files, I: Read, O, E: Write>(
 ) -> Result<(), Halt>
     requires some { 3 ≤ length words.now }
     requires few { length words.now ≤ MAX_PARTITIONS + 2 }
-    ensures transformed { F.tells ≡ true → CallTransforms table (names_of words.now) (I.remaining host.old.stdin) (F.bytes host.old.files) (F.bytes host.new.files) (status_of_ended result) }
-    ensures kept { KeepsOthers (names_of words.now) (F.bytes host.old.files) (F.bytes host.new.files) }
+    ensures written { F.tells ≡ true → CallWrites table (names_of words.now) (I.remaining host.old.stdin) (F.bytes host.old.files) (F.bytes host.new.files) (status_of_ended result) }
+    ensures leaves { F.tells ≡ true → CallLeaves table (names_of words.now) (I.remaining host.old.stdin) (F.bytes host.old.files) (F.bytes host.new.files) }
+    ensures parts { F.tells ≡ true → KeepsOrParts F.leads (names_of words.now) (F.bytes host.old.files) (F.bytes host.new.files) }
+    ensures kept { KeepsOthers F.leads (names_of words.now) (F.bytes host.old.files) (F.bytes host.new.files) }
     ensures refused { KeepsIfRefused table (names_of words.now) (F.bytes host.old.files) (F.bytes host.new.files) }
     ensures unread { IfErr result (λ halt. (is_after_image halt ≡ true)
         ⊎ KeepsAll (F.bytes host.old.files) (F.bytes host.new.files)) }
@@ -254,19 +278,24 @@ fn transform_files<F: Files, I: Read, O, E: Write>(
     }
 }
 
-/// Runs a program of a helper table on the batches of a file and writes each output partition's rows as
-/// batches to a file of its own; answers the status. The words are the image, the file of the batches and one file for
-/// each output partition. The input partition is 0, and its offsets begin at 0. Where it ends since offsets are used
-/// up, one batch more might reach the offset 2^62, or an output partition would have more than 2^63 rows. All files but
-/// those of the output partitions stay, and these too where the image is refused.
+/// Runs a program of a helper table on the batches of a file and writes each output partition's rows as batches to a
+/// file of its own; answers the status. The words are the image, the file of the batches and one file for each output
+/// partition. The input partition is 0, and its offsets begin at 0. Where it ends since offsets are used up, one batch
+/// more might reach the offset 2^62, or an output partition would have more than 2^63 rows. All files but those of the
+/// output partitions stay, and these too where the image is refused, and where one of them is one file with another
+/// file of the call. However it ends, each of them has what it had or whole batches of its rows.
+#[tactic(auto, using(crate::proofs::FileLaws::sources_kept, crate::proofs::FileLaws::left_all))]
 pub fn transform<F: Files, I: Read, O, E: Write>(
     host: &mut Host<F, I, O, E>,
     table: Table,
     words: &[String],
 ) -> Status
-    ensures transformed { F.tells ≡ true → 3 ≤ length words.now → length words.now ≤ MAX_PARTITIONS + 2
-        → CallTransforms table (names_of words.now) (I.remaining host.old.stdin) (F.bytes host.old.files) (F.bytes host.new.files) result }
-    ensures kept { KeepsOthers (names_of words.now) (F.bytes host.old.files) (F.bytes host.new.files) }
+    ensures written { F.tells ≡ true → 3 ≤ length words.now → length words.now ≤ MAX_PARTITIONS + 2
+        → CallWrites table (names_of words.now) (I.remaining host.old.stdin) (F.bytes host.old.files) (F.bytes host.new.files) result }
+    ensures leaves { F.tells ≡ true → CallLeaves table (names_of words.now) (I.remaining host.old.stdin) (F.bytes host.old.files) (F.bytes host.new.files) }
+    ensures parts { F.tells ≡ true → KeepsOrParts F.leads (names_of words.now) (F.bytes host.old.files) (F.bytes host.new.files) }
+    ensures sources { F.tells ≡ true → KeepsSources (names_of words.now) (F.bytes host.old.files) (F.bytes host.new.files) }
+    ensures kept { KeepsOthers F.leads (names_of words.now) (F.bytes host.old.files) (F.bytes host.new.files) }
     ensures refused { KeepsIfRefused table (names_of words.now) (F.bytes host.old.files) (F.bytes host.new.files) }
     ensures stdout { host.new.stdout ≡ host.old.stdout }
 {

@@ -2,7 +2,7 @@
 
 ghost use Rattle.std.specs.Prelude.{Some, IfSome, codes};
 ghost use Rattle.command_line.specs.Calls.{names_of};
-ghost use Rattle.commands.specs.FileTransforms.{CallTransforms};
+ghost use Rattle.commands.specs.FileTransforms.{CallWrites};
 ghost use Rattle.commands.specs.Rechecks.{RechecksAs};
 ghost use Rattle.commands_tests.specs.Shelves.{bytes_in, left_of, with_file};
 
@@ -42,7 +42,7 @@ fn a_list_on_a_shelf_is_rechecked(rt: HostRuntime) {
 /// Runs a program of the first helper table on batches. The words are the image, the batches and the file of the one
 /// output partition.
 fn transform_to(host: &mut TestHost, words: &[String; 3]) -> Status
-    ensures { CallTransforms Table.One (names_of words.now) (left_of host.old.stdin) (bytes_in host.old.files.files)
+    ensures { CallWrites Table.One (names_of words.now) (left_of host.old.stdin) (bytes_in host.old.files.files)
         (bytes_in host.new.files.files) result }
 {
     transform(host, Table::One, words)

@@ -7,9 +7,13 @@ mod failures;
 #[cfg(test)]
 mod known;
 #[cfg(test)]
+mod odd_shelf;
+#[cfg(test)]
 mod receipts;
 #[cfg(test)]
 mod refused_images;
+#[cfg(test)]
+mod shared_files;
 #[cfg(test)]
 mod shelf;
 #[cfg(test)]

@@ -1,10 +1,12 @@
 //! Files in memory, words and input of calls.
 
-ghost use Rattle.std.specs.Prelude.{◌≡◌, ◌≢◌, ℕ, List, true, Some, IfOk, OnOk, IfSome};
+ghost use Rattle.std.specs.Prelude.{◌≡◌, ◌≢◌, ℕ, List, true, false, Some, IfOk, OnOk, OnErr, IfSome};
 ghost use Rattle.std.specs.Bool.{OnTrue};
+ghost use Rattle.core.specs.Option.{option_copied};
+ghost use Rattle.commands.specs.Files.{KeepsAll, word_of};
 ghost use Rattle.commands_tests.specs.Shelves.{bytes_in, left_of};
 
-use commands::{Files, Host};
+use commands::{Endpoint, Files, Host};
 use std::alloc::Global;
 use std::collections::BTreeMap;
 use std::io;
@@ -33,8 +35,14 @@ impl Files for Shelf {
         }
     }
 
-    fn create(&mut self, name: &str) -> io::Result<Vec<u8>> {
-        self.write(name, &[])?;
+    fn are_one(&self, one: Endpoint<'_>, other: Endpoint<'_>) -> io::Result<bool> {
+        match (word_of(one), word_of(other)) {
+            (Some(one), Some(other)) => Ok(one == other),
+            _ => Ok(false),
+        }
+    }
+
+    fn create(&mut self, _name: &str) -> io::Result<Vec<u8>> {
         Ok(Vec::new(self.alloc))
     }
 
@@ -45,6 +53,7 @@ impl Files for Shelf {
     fn write(&mut self, name: &str, content: &[u8]) -> io::Result<()>
         ensures held { OnOk result (bytes_in self.new.files name.now ≡ Some content.now) }
         ensures kept { (other : List ℕ) → other ≢ name.now → bytes_in self.new.files other ≡ bytes_in self.old.files other }
+        ensures failed { OnErr result (KeepsAll (bytes_in self.old.files) (bytes_in self.new.files)) }
     {
         if is_put(self.alloc, &mut self.files, name, content) {
             Ok(())
@@ -54,11 +63,24 @@ impl Files for Shelf {
     }
 }
 
-/// Puts a file in place; whether there was memory for it.
+/// The word of a call by which an endpoint is meant, if one is.
+fn word_of<'a>(endpoint: Endpoint<'a>) -> Option<&'a str>
+    ensures { option_copied result ≡ word_of endpoint.entry }
+{
+    match endpoint {
+        Endpoint::File(name) => Some(name),
+        Endpoint::Stdin => Some("stdin"),
+        Endpoint::Stdout => Some("stdout"),
+        Endpoint::UnusedStdout => None,
+    }
+}
+
+/// Puts a file in place; whether there was memory for it, else all files stay.
 #[tactic(auto, using(std::proofs::lemmas::Map::Text::text_keys))]
 fn is_put(alloc: Global, files: &mut BTreeMap<String, Vec<u8>>, name: &str, content: &[u8]) -> bool
     ensures held { OnTrue result (bytes_in files.new name.now ≡ Some content.now) }
     ensures kept { (other : List ℕ) → other ≢ name.now → bytes_in files.new other ≡ bytes_in files.old other }
+    ensures failed { result ≡ false → KeepsAll (bytes_in files.old) (bytes_in files.new) }
 {
     match (
         String::from_str(alloc, name),

@@ -1,7 +1,7 @@
 //! Files whose readers give a byte at each call and fail at one of them, and writers that fail after a number of bytes.
 
 use crate::shelf::{BATCHES, FORWARD, input_of, words_of};
-use commands::{Files, Host, command};
+use commands::{Endpoint, Files, Host, command};
 use std::alloc::Global;
 use std::io;
 use std::io::{Cursor, Read, Write};
@@ -70,6 +70,10 @@ impl Files for Torn {
             "list" => reader_of(self.alloc, b"image\nimage 2\n", self.fails),
             _ => Err(io::Error::from(io::ErrorKind::NotFound)),
         }
+    }
+
+    fn are_one(&self, _one: Endpoint<'_>, _other: Endpoint<'_>) -> io::Result<bool> {
+        Ok(false)
     }
 
     fn write(&mut self, _name: &str, _content: &[u8]) -> io::Result<()> {

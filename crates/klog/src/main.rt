@@ -6,134 +6,23 @@
 //! records FILE` list those of a file, and `klog commands` lists the calls.
 #![tactic(auto)]
 
-use commands::{Files, Host, Status, command, tell_no_words};
+mod file_id;
+mod host_files;
+mod new_file;
+mod patient;
+mod target;
+
+use crate::host_files::HostFiles;
+use crate::patient::Patient;
+use commands::{Host, Status, command, tell_no_words};
 use std::alloc::Global;
-use std::io::{BufWriter, IsTerminal, Stdout, Write};
-use std::path::PathBuf;
+use std::io::{BufWriter, IsTerminal};
+use std::os::fd::AsRawFd;
 use std::process::ExitCode;
 use std::sync::Wait;
 use std::thread::Threads;
 use std::time::Instant;
 use std::{env, fs, io};
-
-/// A file that is written, or standard output.
-#[derive(Drop)]
-enum HostWriter<F> {
-    File(F),
-    Stdout(Stdout),
-}
-
-impl<F: Write> Write for HostWriter<F> {
-    fn write(&mut self, bytes: &[u8]) -> io::Result<usize> {
-        match self {
-            HostWriter::File(file) => file.write(bytes),
-            HostWriter::Stdout(stdout) => stdout.write(bytes),
-        }
-    }
-
-    fn flush(&mut self) -> io::Result<()> {
-        match self {
-            HostWriter::File(file) => file.flush(),
-            HostWriter::Stdout(stdout) => stdout.flush(),
-        }
-    }
-}
-
-/// The files of the system.
-#[derive(Drop)]
-struct HostFiles<'a> {
-    rt: &'a HostRuntime,
-    /// When the program began, if somebody watches standard error.
-    start: Option<Instant>,
-    /// Where the files are that a transform has opened and created, by their real paths. A script, which may
-    /// open many files, has none here.
-    used: Option<Vec<PathBuf>>,
-}
-
-impl HostFiles<'_> {
-    /// Keeps the real path of a file that was opened or created, if it has one: a pipe has none.
-    fn keep(&mut self, name: &str) -> io::Result<()> {
-        let Some(used) = &mut self.used else {
-            return Ok(());
-        };
-        if let Ok(path) = fs::canonicalize(self.rt, name) {
-            used.push(path)?;
-        }
-        Ok(())
-    }
-
-    /// Whether a file was opened or created, perhaps by another path to it.
-    fn is_used(&self, name: &str) -> bool {
-        let Some(used) = &self.used else {
-            return false;
-        };
-        match fs::canonicalize(self.rt, name) {
-            Ok(path) => used.iter().any(|it| *it == path),
-            Err(_) => false,
-        }
-    }
-}
-
-impl Files for HostFiles<'_> {
-    type Reader = <HostRuntime as fs::Files>::File;
-
-    type Writer = HostWriter<<HostRuntime as fs::Files>::File>;
-
-    fn open(&mut self, name: &str) -> io::Result<<HostRuntime as fs::Files>::File> {
-        let file = fs::open(self.rt, name)?;
-        self.keep(name)?;
-        Ok(file)
-    }
-
-    fn write(&mut self, name: &str, content: &[u8]) -> io::Result<()> {
-        match fs::metadata(self.rt, name) {
-            Ok(found) if !found.is_file() => fs::write(self.rt, name, content),
-            _ => replace(self.rt, name, content),
-        }
-    }
-
-    fn create(&mut self, name: &str) -> io::Result<Self::Writer> {
-        if name == "stdout" {
-            return Ok(HostWriter::Stdout(self.rt.stdout()));
-        }
-        if self.is_used(name) {
-            return Err(io::Error::from(io::ErrorKind::AlreadyExists));
-        }
-        let file = fs::create(self.rt, name)?;
-        self.keep(name)?;
-        Ok(HostWriter::File(file))
-    }
-
-    fn close(&mut self, _name: &str, mut writer: Self::Writer) -> io::Result<()> {
-        writer.flush()
-    }
-
-    fn take_stdin(&mut self) -> io::Result<()> {
-        self.keep("/dev/stdin")
-    }
-
-    fn watched(&self) -> Option<u64> {
-        let start = self.start?;
-        let passed = start.elapsed(self.rt).ok()?;
-        Some(passed.as_secs().saturating_mul(1000))
-    }
-}
-
-/// Writes a file beside another, and renames it over that: so a reader meets either of them whole, and a
-/// write that fails leaves the other one.
-fn replace(rt: &HostRuntime, name: &str, content: &[u8]) -> io::Result<()> {
-    let beside = format!(in rt.alloc(); "{name}.part")?;
-    let written = write_and_rename(rt, beside.as_str(), name, content);
-    if written.is_err() {
-        let _ = fs::remove_file(rt, beside.as_str());
-    }
-    written
-}
-
-fn write_and_rename(rt: &HostRuntime, from: &str, to: &str, content: &[u8]) -> io::Result<()> {
-    fs::write(rt, from, content)?;
-    fs::rename(rt, from, to)
-}
 
 /// When the program began, if standard error is a terminal.
 fn watched_since(rt: &HostRuntime) -> Option<Instant> {
@@ -141,22 +30,6 @@ fn watched_since(rt: &HostRuntime) -> Option<Instant> {
         Instant::now(rt).ok()
     } else {
         None
-    }
-}
-
-/// The files of a call with these words.
-fn files_for<'a>(rt: &'a HostRuntime, words: &[String]) -> HostFiles<'a> {
-    let is_transform = words
-        .first()
-        .is_some_and(|word| word.as_str() == "transform");
-    HostFiles {
-        rt,
-        start: watched_since(rt),
-        used: if is_transform {
-            Some(Vec::new(rt.alloc()))
-        } else {
-            None
-        },
     }
 }
 
@@ -182,15 +55,33 @@ fn called<T: Threads + Wait + Sync>(threads: &T, rt: &HostRuntime) -> io::Result
     }
     let mut host = Host {
         alloc,
-        files: files_for(rt, &words),
-        stdin: rt.stdin(),
-        stdout: BufWriter::new(alloc, rt.stdout())?,
-        stderr: rt.stderr(),
+        files: HostFiles::new(rt, watched_since(rt)),
+        stdin: Patient::new(rt, rt.stdin()),
+        stdout: BufWriter::new(alloc, Patient::new(rt, rt.stdout()))?,
+        stderr: Patient::new(rt, rt.stderr()),
     };
     Ok(command(threads, &mut host, &words))
 }
 
+/// Opens a file that can't be used in the place of each standard stream that the program was started without, so that
+/// no file of a call gets a stream's number, and with it what is written to that stream.
+fn fill_streams(rt: &HostRuntime) -> io::Result<Vec<fs::File>> {
+    let mut fillers = Vec::new(rt.alloc());
+    let unread = fs::OpenOptions::new().write(true).open(rt, "/dev/null")?;
+    if unread.as_raw_fd() == 0 {
+        fillers.push(unread)?;
+    }
+    for _ in 0..2 {
+        let unwritten = fs::open(rt, "/dev/null")?;
+        if unwritten.as_raw_fd() <= 2 {
+            fillers.push(unwritten)?;
+        }
+    }
+    Ok(fillers)
+}
+
 fn main(rt: HostRuntime) -> ExitCode {
+    let _fillers = fill_streams(&rt);
     let status = match called(&rt, &rt) {
         Ok(status) => status,
         Err(error) => tell_no_words(&mut rt.stderr(), &error).status,

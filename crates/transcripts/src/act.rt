@@ -1,7 +1,7 @@
 //! What a call does, and what it answers.
 
 use crate::call::Call;
-use commands::{Files, Host, command};
+use commands::{Endpoint, Files, Host, command};
 use std::alloc::Global;
 use std::io::{Cursor, Write};
 use std::sync::Wait;
@@ -21,6 +21,13 @@ impl Files for Folder<'_> {
 
     fn open(&mut self, name: &str) -> io::Result<Self::Reader> {
         fs::open(self.rt, name)
+    }
+
+    fn are_one(&self, one: Endpoint<'_>, other: Endpoint<'_>) -> io::Result<bool> {
+        match (one, other) {
+            (Endpoint::File(one), Endpoint::File(other)) => Ok(one == other),
+            _ => Ok(false),
+        }
     }
 
     fn write(&mut self, name: &str, content: &[u8]) -> io::Result<()> {

@@ -1,12 +1,24 @@
-use Rattle.commands.proofs.FileLaws.{called, uncalled}
+use Rattle.command_line.specs.Calls.{names_of}
+use Rattle.commands.proofs.FileLaws.{called, called_leaves, uncalled, left_all, parts_after}
 use Rattle.commands.proofs.transforming.transform_files.Goals as goal
 
-pub returns-in-Ok-clause-transformed : goal.returns-in-Ok-clause-transformed
-returns-in-Ok-clause-transformed g c = λ tells.
+pub returns-in-Ok-clause-written : goal.returns-in-Ok-clause-written
+returns-in-Ok-clause-written g c = λ tells.
     called _ _ _ _ c.name_at.ensures _ _ (g.F.Files.bytes c.write_source.new.host.files) _ _ c.in-Ok.ensures.loaded
     c.in-Ok.ensures.kept (c.write_source.ensures.written tells)
 
-pub returns-in-Err-clause-transformed : goal.returns-in-Err-clause-transformed
-returns-in-Err-clause-transformed g c = λ tells.
+pub returns-in-Ok-clause-leaves : goal.returns-in-Ok-clause-leaves
+returns-in-Ok-clause-leaves g c = λ tells.
+    called_leaves _ _ _ _ c.name_at.ensures _ _ (g.F.Files.bytes c.write_source.new.host.files) _ _
+    c.in-Ok.ensures.loaded c.in-Ok.ensures.kept (c.write_source.ensures.written tells)
+
+pub returns-in-Ok-clause-parts : goal.returns-in-Ok-clause-parts
+returns-in-Ok-clause-parts g c = λ tells. parts_after g.F.Files.leads (names_of c.args.words.now) c.in-Ok.ensures.kept (c.write_source.ensures.parts tells)
+
+pub returns-in-Err-clause-written : goal.returns-in-Err-clause-written
+returns-in-Err-clause-written g c = λ tells.
     uncalled _ _ (g.F.Files.bytes c.args.host.now.files) _ c.name_at.ensures _
     (g.F.Files.bytes c.load_file.new.files) c.in-Err.halt c.in-Err.ensures.loaded
+
+pub returns-in-Err-clause-leaves : goal.returns-in-Err-clause-leaves
+returns-in-Err-clause-leaves g c = λ tells. left_all _ _ _ _ _ c.in-Err.ensures.kept
