@@ -29,7 +29,8 @@ returns-clause-each g c = λ apart.
     let road = YieldsList-from_vec c.args.outlets.items gives.0 (search rules) in
     let all : c.loop-outlet.yielded ≡ c.args.outlets.items =
     sym (map-id c.loop-outlet.yielded)
-    ∙ (YieldsList-end road c.loop-outlet.yielded c.loop-outlet.outlet-iterator c.loop-outlet.yielded_by _ _ c.in-None.is c.next.ensures.steps).0 in
+    ∙ (YieldsList-end road c.loop-outlet.yielded c.loop-outlet.outlet-iterator c.loop-outlet.yielded_by
+    c.next.result c.next.new.self c.in-None.is c.next.ensures.steps).0 in
     rw (← all) (each_written _ c.loop-outlet.yielded (g.F.Files.bytes c.args.files.now)
     (g.F.Files.bytes c.loop-outlet.files) (c.loop-outlet.invariant.4 apart))
 
@@ -40,6 +41,7 @@ returns-in_err-close_one-clause-each g c = λ apart.
     let first : c.loop-outlet.yielded ≡ take (length c.loop-outlet.yielded) c.args.outlets.items =
     sym (map-id c.loop-outlet.yielded)
     ∙ YieldsList-so_far road c.loop-outlet.yielded c.loop-outlet.outlet-iterator c.loop-outlet.yielded_by in
-    each_failed _ _ _ _ c.loop-outlet.output c.loop-outlet.yielded c.args.outlets.items first apart
+    each_failed _ _ _ (g.F.Files.bytes c.close_one.new.files) c.loop-outlet.output c.loop-outlet.yielded
+    c.args.outlets.items first apart
     c.loop-outlet.invariant.2 (c.loop-outlet.invariant.4 apart) c.loop-outlet.invariant.5
     c.in_err-close_one.ensures.failed

@@ -19,5 +19,6 @@ returns-clause-same g c =
     let road = YieldsList-from_vec c.args.outlets.items gives.0 (search rules) in
     let all : c.loop-outlet.yielded ≡ c.args.outlets.items =
     sym (map-id c.loop-outlet.yielded)
-    ∙ (YieldsList-end road c.loop-outlet.yielded c.loop-outlet.outlet-iterator c.loop-outlet.yielded_by _ _ c.in-None.is c.next.ensures.steps).0 in
+    ∙ (YieldsList-end road c.loop-outlet.yielded c.loop-outlet.outlet-iterator c.loop-outlet.yielded_by
+    c.next.result c.next.new.self c.in-None.is c.next.ensures.steps).0 in
     rw (← all) c.loop-outlet.invariant.2
