@@ -4,6 +4,7 @@ use crate::call::Call;
 use commands::{Endpoint, Files, Host, command};
 use std::alloc::Global;
 use std::io::{Cursor, Write};
+use std::os::unix::fs::MetadataExt;
 use std::sync::Wait;
 use std::thread::Threads;
 use std::{fs, io};
@@ -25,7 +26,7 @@ impl Files for Folder<'_> {
 
     fn are_one(&self, one: Endpoint<'_>, other: Endpoint<'_>) -> io::Result<bool> {
         match (one, other) {
-            (Endpoint::File(one), Endpoint::File(other)) => Ok(one == other),
+            (Endpoint::File(one), Endpoint::File(other)) => Ok(lead_to_one(self.rt, one, other)),
             _ => Ok(false),
         }
     }
@@ -40,6 +41,14 @@ impl Files for Folder<'_> {
 
     fn close(&mut self, _name: &str, mut writer: Self::Writer) -> io::Result<()> {
         writer.flush()
+    }
+}
+
+/// Whether two names lead to one file that is there, or are the same.
+fn lead_to_one(rt: &HostRuntime, one: &str, other: &str) -> bool {
+    match (fs::metadata(rt, one), fs::metadata(rt, other)) {
+        (Ok(found), Ok(second)) => found.dev() == second.dev() && found.ino() == second.ino(),
+        _ => one == other,
     }
 }
 
