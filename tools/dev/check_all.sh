@@ -99,6 +99,7 @@ check meanings "clang" tools/klogc/tests/compare.py --programs 20
 check scripts "" tools/dev/compare.py "$klog" 300
 check texts "" tools/dev/compare_texts.py "$klog" 300
 check outputs "" tools/dev/cut_output.py "$klog"
+check files "" tools/dev/file_attacks.py "$klog" 50
 check examples "cc library" examples/library/run.sh "$folder"
 check calls "library" tools/dev/compare_library.py "$folder/libklog.so" 300 7 "$klog"
 check memory "cc library" refuse_library_memory

@@ -287,15 +287,16 @@ def main(words: list[str]) -> int:
         return 2
     attacks = [(1, lambda room, rows: one_file(room)), (1, right_places), (1, failing), (500, not_blocking),
                (1, lambda room, rows: two_asm(room, 5)), (2000, lambda room, rows: kills(room, rows, count, random.Random(7)))]
-    wrong = []
+    wrong, tried = [], 0
     for copies, attack in attacks:
         with tempfile.TemporaryDirectory() as folder:
             room, rows = new_room(klog, folder, copies)
             attack(room, rows)
             for kind, (right, all_) in room.counts.items():
                 print(f"{kind}: {right} of {all_}")
+                tried += all_
             wrong += room.wrong
-    print(*wrong, sep="\n", end="\n" if wrong else "")
+    print(*wrong, f"{tried} attacks, {len(wrong)} that did harm", sep="\n")
     return 1 if wrong else 0
 
 
