@@ -38,6 +38,12 @@ class Room:
         with open(self.path(name), "wb") as file:
             file.write(content)
 
+    def link(self, target: str, name: str) -> None:
+        """Makes a name a link, whatever it was."""
+        if os.path.lexists(self.path(name)):
+            os.remove(self.path(name))
+        os.symlink(target, self.path(name))
+
     def read(self, name: str) -> Optional[bytes]:
         try:
             with open(self.path(name), "rb") as file:
@@ -47,6 +53,14 @@ class Room:
 
     def all(self) -> dict:
         return {name: (self.read(name), os.lstat(self.path(name)).st_ino) for name in os.listdir(self.folder)}
+
+    def restore(self, before: dict) -> None:
+        """Gives the files the bytes that they had before an attack, and removes new ones."""
+        for name in set(os.listdir(self.folder)) - set(before):
+            os.remove(self.path(name))
+        for name, (content, _) in before.items():
+            if content is not None and self.read(name) != content:
+                self.put(name, content)
 
     def call(self, *words: str, **how) -> subprocess.CompletedProcess:
         how.setdefault("stdin", subprocess.DEVNULL)
@@ -69,12 +83,14 @@ class Room:
         elif self.all() != before:
             fault = f"files changed: {sorted(self.all())}"
         self.check("refused, with nothing changed", label, fault)
+        self.restore(before)
 
     def fails(self, kind: str, label: str, name: str, *words: str, **how) -> None:
         """A call that must end with `file NAME` after its counts, status 3, and change nothing."""
         before, ran = self.all(), self.call(*words, **how)
         good = ran.returncode == 3 and ran.stderr.endswith(f"file {name}\n".encode()) and self.all() == before
         self.check(kind, label, None if good else f"status {ran.returncode}, {ran.stderr!r}, {sorted(self.all())}")
+        self.restore(before)
 
     def made(self, label: str, outs: dict, *words: str, **how) -> None:
         """A call that must end with status 0, and files that must have these bytes then."""
@@ -149,11 +165,15 @@ def right_places(room: Room, rows: bytes) -> None:
     room.check("done, with the right bytes", "link", None if os.path.islink(room.path("link")) else "is none any more")
     os.symlink("absent", room.path("dangling"))
     room.made("a link to no file", {"absent": rows}, "transform", "p.bin", "in", "dangling")
+    others = {"x.part": b"mine", "x.part1": b"mine", "in": room.read("in")}
+    room.put("x.part", b"mine")
     room.put("x.part1", b"mine")
     os.symlink("in", room.path("x.part2"))
-    batches = room.read("in")
-    room.made("names of others", {"x": rows, "x.part1": b"mine", "in": batches}, "transform", "p.bin", "in", "x")
-    room.made("asm, names of others", {"x": room.read("p.bin"), "x.part1": b"mine", "in": batches}, "asm", "p.txt", "x")
+    room.made("names of others", {"x": rows, **others}, "transform", "p.bin", "in", "x")
+    room.made("asm, names of others", {"x": room.read("p.bin"), **others}, "asm", "p.txt", "x")
+    room.link("in", "x.part")
+    room.made("asm, a link of another", {"x": room.read("p.bin"), "in": others["in"]}, "asm", "p.txt", "x")
+    room.put("in", others["in"])
     room.made("a long name", {"n" * 255: rows}, "transform", "p.bin", "in", "n" * 255)
     room.made("/dev/null", {}, "transform", "p.bin", "in", "/dev/null")
     with open(room.path("to"), "wb") as file:
@@ -249,6 +269,20 @@ def kills(room: Room, rows: bytes, count: int, chance: random.Random) -> None:
     room.check("kills", "each OUT is old or new", None if odd == 0 else "see above")
 
 
+def write_slowly(pipe: int, content: bytes) -> None:
+    """Writes twenty pieces to a pipe, up to its reader's end, and closes it."""
+    piece = max(1, len(content) // 20)
+    try:
+        for at in range(0, len(content), piece):
+            time.sleep(0.01)
+            left = content[at:at + piece]
+            while left:
+                left = left[os.write(pipe, left):]
+    except BrokenPipeError:
+        pass
+    os.close(pipe)
+
+
 def not_blocking(room: Room, rows: bytes) -> None:
     """Pipes that don't block, with a slow writer and a slow reader."""
     batches = room.read("in")
@@ -257,11 +291,7 @@ def not_blocking(room: Room, rows: bytes) -> None:
     child = subprocess.Popen([room.klog, "transform", "p.bin", "stdin", "slow"], cwd=room.folder, stdin=end,
                              stdout=subprocess.DEVNULL, stderr=subprocess.PIPE)
     os.close(end)
-    for at in range(0, len(batches), max(1, len(batches) // 20)):
-        time.sleep(0.01)
-        with open(source, "wb", closefd=False) as file:
-            file.write(batches[at:at + max(1, len(batches) // 20)])
-    os.close(source)
+    write_slowly(source, batches)
     child.communicate(timeout=60)
     good = child.returncode == 0 and room.read("slow") == rows
     room.check("streams that don't block", "standard input", None if good else f"status {child.returncode}")
