@@ -1,5 +1,4 @@
-use Rattle.std.proofs.Common.{refl, inl}
-use Rattle.commands.proofs.FileLaws.{told_as, left_all}
+use Rattle.commands.proofs.FileLaws.{told_as}
 use Rattle.commands.proofs.transforming.transform.Goals as goal
 
 pub returns-in-Ok-clause-written : goal.returns-in-Ok-clause-written
