@@ -201,6 +201,13 @@ impl<R: Read> BatchReader<R> {
     {
         self.pieces.next(&mut self.reader)
     }
+
+    /// The bytes at which `next` refused a batch, as `Pieces::refused` has them.
+    pub fn refused(&mut self) -> Result<Bytes, ReadFault>
+        ensures { IfOk result (λ first. BeginsWith (prepend_known (kept_bytes self.old.stream) self.old.rest) first) }
+    {
+        self.pieces.refused(&mut self.reader)
+    }
 }
 
 // The next batch of a feed and of a reader, of which pieces of the buffer's length are read.

@@ -130,7 +130,7 @@ keeps_rows (Err (fault.Transform (stop.Output output outlet.Write))) = false
 -- the status by what is reported
 abbrev pub status_of_halt : Halt → Status
 status_of_halt (halt.Image _) = Refused
-status_of_halt (halt.Batch _ _) = Refused
+status_of_halt (halt.Batch _) = Refused
 status_of_halt halt.Full = Refused
 status_of_halt (halt.File _) = Failed
 status_of_halt halt.Memory = Failed
@@ -207,7 +207,7 @@ KeepsIfRefused table names before after = (image : List ℕ) (fault : LoadFault)
 -- read, whose word is the first
 abbrev pub is_after_image : Halt → Bool
 is_after_image (halt.Image fault) = false
-is_after_image (halt.Batch position fault) = true
+is_after_image (halt.Batch refusal) = true
 is_after_image halt.Full = true
 is_after_image (halt.File word) = nat_lt 0 word
 is_after_image halt.Memory = true
@@ -217,7 +217,7 @@ abbrev pub IsUnloaded : Program → Halt → Type 0
 IsUnloaded program (halt.Image fault) = IsRefusedWith program fault
 IsUnloaded program (halt.File word) = ⊤
 IsUnloaded program halt.Memory = ⊤
-IsUnloaded program (halt.Batch position fault) = ⊥
+IsUnloaded program (halt.Batch refusal) = ⊥
 IsUnloaded program halt.Full = ⊥
 
 -- the program that was asked for, which is accepted, or why there is none

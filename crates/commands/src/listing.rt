@@ -18,7 +18,7 @@ use std::io::{BufReader, Read, Write};
 use wire_spec::MAX_PIECE;
 
 /// Which bytes begin with no batch, and why, in a line.
-fn refusal_text(alloc: Global, refusal: &NoBatch) -> Result<String, AllocError> {
+pub(crate) fn refusal_text(alloc: Global, refusal: &NoBatch) -> Result<String, AllocError> {
     let NoBatch {
         batches,
         position,

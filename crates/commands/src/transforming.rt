@@ -18,7 +18,7 @@ ghost use Rattle.commands.specs.Listings.{source_of};
 
 use crate::counting::{counts_text, say_counts};
 use crate::files::Files;
-use crate::halts::{Ending, Halt, INPUT, halted, tell_halt, unused};
+use crate::halts::{Ending, Halt, INPUT, ending_of, halted, tell_halt, unused};
 use crate::host::Host;
 use crate::image::{Refused, read_image, refusal_of};
 use crate::output_files::{begin_all, close_all, name_at};
@@ -183,15 +183,8 @@ fn write_batches<F: Files, R: Read, E: Write>(
         Ok(outlets) => {
             let mut stream = Transform::new(alloc, 0, 0, outlets);
             let ended = run(alloc, files, stderr, program, batches, &mut stream);
-            let position = batches.position();
-            finish(
-                alloc,
-                files,
-                stderr,
-                words,
-                stream,
-                Ending { ended, position },
-            )
+            let ending = ending_of(ended, batches);
+            finish(alloc, files, stderr, words, stream, ending)
         }
         Err(halt) => Err(halt),
     }

@@ -115,7 +115,8 @@ static ENDINGS: [Ending; 5] = [
             &["transform", "none", "cut", "a", "b", "c"],
             1,
             "out 0 in 0 done 2 rows 0\nout 1 in 0 done 2 rows 0\nout 2 in 0 done 2 rows 0\n\
-            in 0 items 2 records 1 unprogrammed 0 kept 1\nbatch 1 at byte 70: B1 Short\n",
+            in 0 items 2 records 1 unprogrammed 0 kept 1\n\
+            batch 1 at byte 70: B1 Short: the file ends after 192 bytes, and batchLength is 181\n",
         ),
         [true, true, true],
     ),

@@ -3,5 +3,5 @@ use Rattle.commands.proofs.transforming.finish.Goals as goal
 
 pub returns-in-Ok-clause-held : goal.returns-in-Ok-clause-held
 returns-in-Ok-clause-held g c = λ apart.
-    ⊎_elim (λ failed. inl (c.halted.ensures.status ∙ failed)) (λ written. inr (c.halted.ensures.status, written))
-    (c.in-Ok.ensures.held apart)
+    ⊎_elim (λ same. ⊎_elim (λ failed. inl (same ∙ failed)) (λ written. inr (same, written)) (c.in-Ok.ensures.held apart))
+    inl c.halted.ensures.status

@@ -12,7 +12,8 @@ returns-in-Ok-clause-written g c = λ tells bytes known.
       start_is = c.new-stream.ensures;
     }) (omega (arith, many_names c.args.words.now, c.in-Ok.ensures.count)) c.run-ended.ensures _ _
     (g.F.Files.bytes c.finish.new.files) _ c.in-Ok.ensures.kept
-    (c.finish.ensures.held (c.in-Ok.ensures.apart tells)) (c.finish.ensures.each (c.in-Ok.ensures.apart tells))
+    (rw c.ending_of-ending.ensures at (c.finish.ensures.held (c.in-Ok.ensures.apart tells)))
+    (rw c.ending_of-ending.ensures at (c.finish.ensures.each (c.in-Ok.ensures.apart tells)))
 
 pub returns-in-Err-clause-written : goal.returns-in-Err-clause-written
 returns-in-Err-clause-written g c = λ tells bytes known.
