@@ -15,7 +15,7 @@ struct place *place_of(struct worker *worker, int32_t partition)
 	if (!places)
 		return NULL;
 	for (size_t k = worker->place_count; k < count; k++)
-		places[k] = (struct place){.next = -1, .committed = -1};
+		places[k] = (struct place){.next = -1, .committed = -1, .last = NONE};
 	worker->places = places;
 	worker->place_count = count;
 	return &places[at];

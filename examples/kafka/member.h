@@ -26,6 +26,8 @@ enum {
 	TEXT = 512
 };
 
+#define NONE UINT32_MAX /* no polled record: their numbers are smaller */
+
 /* What follows a step: the next one, the end of a transaction without its records, or the end of the process. */
 typedef enum { GO_ON, ABORT, END } next_step;
 
@@ -107,6 +109,7 @@ struct place {
 	int64_t next;      /* the offset after the records of this transaction, -1 where it has none of here */
 	int64_t committed; /* the offset that the group goes on from, -1 where there is none */
 	unsigned said;     /* the load whose program was said to run on it, 0 for none */
+	uint32_t last;     /* the number of its last record that was polled, NONE where there is none */
 };
 
 struct worker {
@@ -123,6 +126,8 @@ struct worker {
 	int32_t dead_partitions;
 	size_t longest_message;
 	rd_kafka_message_t **polled;
+	uint32_t *following; /* the number of the next record of the same partition, NONE after the last */
+	uint32_t *order;     /* the numbers of the records in the order of their turns */
 	bool is_open;        /* a transaction, neither committed nor aborted */
 	bool is_given;       /* partitions were, since the last poll began */
 	bool is_revoked;     /* and taken back */

@@ -4,6 +4,8 @@
 #include <stdlib.h>
 #include <string.h>
 
+enum { TURNS = 16 };
+
 next_step stop(struct worker *worker, next_step step, const char *form, ...)
 {
 	if (step > worker->step) {
@@ -164,16 +166,62 @@ static next_step begin_anew(struct worker *worker)
 	return learn_places(worker, true);
 }
 
+/* Links each polled record to the next one of its partition, and puts the first one of each in front of the order; how many
+ * these are. */
+static size_t link_records(struct worker *worker, size_t count)
+{
+	size_t firsts = 0;
+	for (uint32_t k = 0; k < count; k++) {
+		struct place *place = place_of(worker, worker->polled[k]->partition);
+		if (!place) {
+			stop(worker, END, "memory ran out");
+			return 0;
+		}
+		if (place->last == NONE)
+			worker->order[firsts++] = k;
+		else
+			worker->following[place->last] = k;
+		worker->following[k] = NONE;
+		place->last = k;
+	}
+	return firsts;
+}
+
+/* Runs the program on the first record of each partition, on the second of each, and so on, and after some turns on all
+ * others of one partition and of the next. So the outputs' partitions get their first records at about the same time. With
+ * its first record a partition is registered with the transaction, for which librdkafka's main thread waits busily for a
+ * millisecond, but once alone for all that come meanwhile. */
+static next_step run_on_all(struct worker *worker, size_t count)
+{
+	next_step step = GO_ON;
+	size_t end = link_records(worker, count);
+	const size_t turned = end * TURNS;
+	for (size_t at = 0; at < end && step == GO_ON; at++) {
+		uint32_t k = worker->order[at];
+		do {
+			step = run_on(worker, worker->polled[k]);
+			rd_kafka_message_destroy(worker->polled[k]);
+			worker->polled[k] = NULL;
+			k = worker->following[k];
+		} while (at >= turned && k != NONE && step == GO_ON);
+		if (k != NONE)
+			worker->order[end++] = k;
+	}
+	return end ? step : worker->step;
+}
+
 /* Runs the program on what was polled: its outputs and the offsets after it are committed together or not. */
 static next_step transact(struct worker *worker, size_t count)
 {
 	worker->counts = (struct counts){0};
-	for (size_t k = 0; k < worker->place_count; k++)
+	for (size_t k = 0; k < worker->place_count; k++) {
 		worker->places[k].next = -1;
+		worker->places[k].last = NONE;
+	}
 	next_step step = after(worker, "begin", rd_kafka_begin_transaction(worker->producer));
 	worker->is_open = step == GO_ON;
-	for (size_t k = 0; k < count && step == GO_ON; k++)
-		step = run_on(worker, worker->polled[k]);
+	if (step == GO_ON)
+		step = run_on_all(worker, count);
 	if (step == GO_ON)
 		step = commit(worker);
 	if (step == GO_ON)
@@ -195,7 +243,8 @@ void *run_worker(void *opaque)
 		if (count)
 			step = transact(worker, count);
 		for (size_t k = 0; k < count; k++)
-			rd_kafka_message_destroy(worker->polled[k]);
+			if (worker->polled[k])
+				rd_kafka_message_destroy(worker->polled[k]);
 		if (worker->step != GO_ON)
 			step = worker->step;
 	}
@@ -312,9 +361,11 @@ bool open_worker(struct worker *worker)
 {
 	pthread_mutex_init(&worker->lock, NULL);
 	worker->polled = calloc(worker->options->records, sizeof *worker->polled);
+	worker->following = calloc(worker->options->records, sizeof *worker->following);
+	worker->order = calloc(worker->options->records, sizeof *worker->order);
 	worker->key = malloc(MOST_KEY);
 	worker->value = malloc(MOST_VALUE);
-	if (!worker->polled || !worker->key || !worker->value)
+	if (!worker->polled || !worker->following || !worker->order || !worker->key || !worker->value)
 		stop(worker, END, "memory ran out");
 	else if (open_producer(worker) && open_topics(worker) && open_consumer(worker))
 		return true;
@@ -340,6 +391,8 @@ void close_worker(struct worker *worker)
 	klog_free(&worker->program);
 	free(worker->places);
 	free(worker->polled);
+	free(worker->following);
+	free(worker->order);
 	free(worker->key);
 	free(worker->value);
 }

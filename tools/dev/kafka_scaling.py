@@ -19,6 +19,7 @@ each, as the mock cluster keeps 5, and records with a value of 200 bytes and a k
 """
 import argparse
 import os
+import random
 import re
 import signal
 import subprocess
@@ -98,11 +99,16 @@ def waited(test, seconds=600):
         time.sleep(0.02)
 
 
+def a_record(rng):
+    """A record. Its headers have no null values: the member in Python breaks off after some thousands of them."""
+    key, value, headers = some_record(rng, 200)
+    return 1700000000000, key, value, [(name, text or b"") for name, text in headers]
+
+
 def fill(cluster, mebibytes):
     """Fills each partition of the topic `in`; how many records it has in all."""
-    import random
     rng, count = random.Random(1), 0
-    batches = [batch_of([(1700000000000, *some_record(rng, 200)) for _ in range(BATCH)]) for _ in range(8)]
+    batches = [batch_of([a_record(rng) for _ in range(BATCH)]) for _ in range(8)]
     for partition in range(PARTITIONS):
         size = 0
         while size + len(batches[0]) < mebibytes << 20:
