@@ -11,7 +11,8 @@ others with --member the member in C, which its Makefile made:
     /usr/bin/python3 tools/dev/kafka_scaling.py LIBRARY [--member MEMBER] rest 1 100 1000  # of as many idle partitions
     /usr/bin/python3 tools/dev/kafka_scaling.py LIBRARY [--member MEMBER] shares           # one joins, leaves, dies
 
-Without --member the member in Python is measured. `rates` has each form twice, in turn, and prints the better turn.
+Without --member the member in Python is measured. `rates` has each form twice, in turn, and prints the better turn. One
+form is the member in C without klog, which forwards records by kafka_forward.c: what it takes less is klog's share.
 
 All but `shares` take the mock cluster as it is, without the transactions of mock_kafka.py: it answers a transaction's
 requests and keeps nothing of them, which costs the members the same. The topic has 64 partitions, with --mebibytes (4) in
@@ -149,13 +150,25 @@ def built_alone(folder):
     return program
 
 
+def built_without(folder):
+    """Builds the member in C with kafka_forward.c in place of klog's library; its name."""
+    source, made = os.path.join(os.path.dirname(os.path.abspath(__file__)), "kafka_forward.c"), f"{folder}/forward.o"
+    subprocess.run(["cc", "-std=c11", "-O2", "-pthread", f"-I{TOP}/include", "-c", source, "-o", made], check=True)
+    subprocess.run(["ar", "rcs", f"{folder}/libklog.a", made], check=True)
+    with open(f"{folder}/klog.pc", "w") as file:
+        file.write(f"Name: klog\nDescription: none\nVersion: 0\nCflags: -I{os.path.abspath(TOP)}/include\n")
+    subprocess.run(["make", "-s", "-C", f"{TOP}/examples/kafka", f"KLOG={folder}", f"OUT={folder}"], check=True)
+    return f"{folder}/member"
+
+
 def rates(given):
     """All forms in one run, each twice."""
     python = argparse.Namespace(library=given.library, member=None)
     with tempfile.TemporaryDirectory() as folder:
-        alone = built_alone(folder)
+        alone, without = built_alone(folder), argparse.Namespace(member=built_without(folder))
         forms = {"Python": (lambda servers: words_of(python, servers),),
                  "C, 1 thread": (lambda servers: words_of(given, servers),),
+                 "C, 1 thread, without klog's calls": (lambda servers: words_of(without, servers),),
                  "C, 4 threads": (lambda servers: words_of(given, servers, 4), 4),
                  "librdkafka alone": (lambda servers: [alone, servers, "g", "in", "out", "5000"], 1, False)}
         best = {}

@@ -10,11 +10,17 @@ version 2.0.2 it was seen, and its source says, that
 - TxnOffsetCommit keeps no offset, and takes no generation (version 2);
 - a second InitProducerId of a transactional id leaves the first producer its rights.
 
-`Front` is a proxy on ports of its own that does these three, by the rules of KIP-98 and KIP-447, and hands on the rest.
+And of groups its source says that
+
+- a SyncGroup that comes after the leader's is refused, and all join again, which on a busy machine goes on for minutes;
+- it doesn't notice that a connection was closed while it owes the answer to a JoinGroup there, and ends by an assertion
+  (rd_kafka_mock_cgrp_member_add) as soon as that member joins by another connection.
+
+`Front` is a proxy on ports of its own that does these five, by the rules of KIP-98 and KIP-447, and hands on the rest.
 A transaction's end is a control batch in each of its partitions, and a fetch of committed records ends before the first
 open transaction and names the aborted ones. An offset is committed with its transaction alone, and one of a member
 that is not in the group's generation is refused. A producer is refused after the next one of its transactional id
-came, or after its time. A fetch of offsets waits while an open transaction has some.
+came, or after its time. A fetch of offsets is answered UNSTABLE_OFFSET_COMMIT while an open transaction has some.
 """
 import ctypes
 import select
@@ -23,13 +29,14 @@ import struct
 import threading
 import time
 from collections import Counter
+from contextlib import nullcontext
 
 from kafka_clients import Reader, text
 
 PRODUCE, FETCH, LIST_OFFSETS, METADATA, OFFSET_COMMIT, OFFSET_FETCH, FIND_COORDINATOR = 0, 1, 2, 3, 8, 9, 10
 JOIN_GROUP, HEARTBEAT, LEAVE_GROUP, SYNC_GROUP, API_VERSIONS = 11, 12, 13, 14, 18
 INIT_PRODUCER_ID, ADD_PARTITIONS, ADD_OFFSETS, END_TRANSACTION, TRANSACTION_OFFSETS = 22, 24, 25, 26, 28
-UNKNOWN_MEMBER, UNSUPPORTED_VERSION, INVALID_EPOCH, INVALID_STATE = 25, 35, 47, 48
+UNKNOWN_MEMBER, REBALANCING, UNSUPPORTED_VERSION, INVALID_EPOCH, INVALID_STATE, UNSTABLE = 25, 27, 35, 47, 48, 88
 
 # The versions that the front offers: those whose fields it reads.
 VERSIONS = [(PRODUCE, 0, 3), (FETCH, 0, 4), (LIST_OFFSETS, 0, 1), (METADATA, 0, 1), (OFFSET_COMMIT, 0, 2), (OFFSET_FETCH, 0, 1),
@@ -64,6 +71,12 @@ class Connection:
                 raise ConnectionError
         return frame(self.stream)
 
+    def reset(self):
+        """Closes it so that a broker that doesn't read from it notices too."""
+        self.socket.setsockopt(socket.SOL_SOCKET, socket.SO_LINGER, struct.pack("ii", 1, 0))
+        self.stream.close()
+        self.socket.close()
+
 
 class MockCluster:
     """librdkafka's mock cluster, with one broker, in this process."""
@@ -94,6 +107,12 @@ class MockCluster:
         if fields.take("h"):
             raise ValueError(topic)
         return fields.take("q")
+
+    def wait_for_turn(self):
+        """Returns when the broker has seen all that came to its connections before: a new one it reads in a later turn."""
+        turn = self.connection()
+        turn.ask(struct.pack(">hhi", API_VERSIONS, 0, 0) + text("front"))
+        turn.reset()
 
     def call(self, name, result, *words):
         function = getattr(self.library, name)
@@ -174,12 +193,14 @@ class Front:
     def __init__(self, mock, moment=lambda name, word: None):
         self.mock, self.lock, self.moment = mock, threading.RLock(), moment
         self.owners, self.aborted, self.committed, self.groups = {}, {}, {}, {}
+        self.joining, self.shares = {}, {}  # a lock for each member; what the leader of a group gave, with the generation
         self.ends = Counter()
         self.server = socket.create_server(("127.0.0.1", 0))
         self.port = self.server.getsockname()[1]
         self.servers = f"127.0.0.1:{self.port}"
         self.changes = {PRODUCE: self.produce, FETCH: self.fetch, METADATA: self.metadata, OFFSET_FETCH: self.fetch_offsets,
-                        FIND_COORDINATOR: self.find_coordinator, JOIN_GROUP: self.join_group, INIT_PRODUCER_ID: self.begin_producer,
+                        FIND_COORDINATOR: self.find_coordinator, JOIN_GROUP: self.join_group, SYNC_GROUP: self.sync_group,
+                        INIT_PRODUCER_ID: self.begin_producer,
                         ADD_PARTITIONS: self.add_partitions, ADD_OFFSETS: self.add_offsets, END_TRANSACTION: self.end_transaction,
                         TRANSACTION_OFFSETS: self.take_offsets}
         threading.Thread(target=self.accept, daemon=True).start()
@@ -231,8 +252,16 @@ class Front:
     # Groups
 
     def join_group(self, request, fields, version, behind):
-        group = fields.text()
-        answer = behind.ask(request, True)
+        group, _, member = fields.text(), fields.take("i" if version < 1 else "ii"), fields.text()
+        with self.lock:
+            turn = self.joining.setdefault((group, member), threading.Lock()) if member else nullcontext()
+        with turn:
+            try:
+                answer = behind.ask(request, True)
+            except ConnectionError:
+                behind.reset()
+                self.mock.wait_for_turn()
+                raise
         fields = Reader(answer)
         fields.take("i" if version < 2 else "ii")
         if fields.take("h") == 0:
@@ -244,24 +273,36 @@ class Front:
                 self.groups[group][1].add(fields.text())
         return answer
 
+    def sync_group(self, request, fields, version, behind):
+        """A member's share. The mock cluster refuses who asks after the leader, so the front keeps what the leader gave."""
+        group, generation, member = fields.text(), fields.take("i"), fields.text()
+        shares = {fields.text(): fields.bytes() for _ in range(fields.take("i"))}
+        if shares:
+            with self.lock:
+                self.shares[group] = generation, shares
+        answer = behind.ask(request, True)
+        at = 4 if version < 1 else 8
+        with self.lock:
+            given, shares = self.shares.get(group, (None, {}))
+            is_late = struct.unpack_from(">h", answer, at)[0] == REBALANCING and given == generation and member in shares
+            is_late = is_late and self.groups[group][0] == generation
+        return answer[:at] + b"\0\0" + framed(shares[member]) if is_late else answer
+
     def fetch_offsets(self, request, fields, version, behind):
         group, places = fields.text(), []
         for _ in range(fields.take("i")):
             topic = fields.text()
             places.append((topic, [fields.take("i") for _ in range(fields.take("i"))]))
-        while self.is_awaited({(group, topic, partition) for topic, partitions in places for partition in partitions}):
-            time.sleep(0.02)
         answer = request[4:8] + struct.pack(">i", len(places))
         with self.lock:
             for topic, partitions in places:
                 answer += text(topic) + struct.pack(">i", len(partitions))
                 for partition in partitions:
-                    answer += struct.pack(">iqhh", partition, self.committed.get((group, topic, partition), -1), -1, 0)
+                    place = group, topic, partition
+                    is_awaited = any(owner.open and place in owner.open.offsets for owner in self.owners.values())
+                    offset = -1 if is_awaited else self.committed.get(place, -1)
+                    answer += struct.pack(">iqhh", partition, offset, -1, UNSTABLE if is_awaited else 0)
         return answer
-
-    def is_awaited(self, places):
-        with self.lock:
-            return any(owner.open and places & set(owner.open.offsets) for owner in self.owners.values())
 
     # Transactions
 
