@@ -8,14 +8,18 @@ Not part of the build. On Debian, with a libklog.so that tools/build_library.sh 
 """
 import json
 import os
+import re
+import signal
 import subprocess
 import sys
+import time
 
 from mock_kafka import MockCluster
 
 TOP = os.path.join(os.path.dirname(os.path.abspath(__file__)), "..", "..")
 LINES, KEEP = f"{TOP}/examples/library/lines.py", f"{TOP}/examples/c/filter_first_byte.bin"  # keeps values with an A in front
 ROUTE = f"{TOP}/examples/c/route_by_hash.bin"
+KCAT_READS = 1024  # bytes that kcat wants of its input before it produces a line of them
 
 # What goes in, with words of the call, what must come out, and what must be said of it.
 CASES = [
@@ -29,7 +33,7 @@ CASES = [
       "line 5: the timestamp is not", "line 6: the key has half a surrogate pair", "faulty 6"]),
     (["--outputs", "4", "--only", "2"], ROUTE, b"a\t1\nb\t2\nc\t3\nd\t4\n", None, []),
     ([], KEEP, b"A" * 1048577 + b"\nA\n", b"A\n", ["line 1: a key or a value is too long", "faulty 1"]),
-    ([], f"{TOP}/README.md", b"", b"", ["README.md: I2 Opcode slot 0"]),
+    ([], f"{TOP}/README.md", b"", b"", ["README.md: I"]),
 ]
 
 
@@ -77,12 +81,45 @@ def with_kcat(library):
     print(f"kcat in front and behind: {len(rows)} of 1000 records kept, by lines and by JSON")
 
 
+def as_the_page_says(library):
+    """The pipe of docs/formats.md, over a topic that has records and gets more while the pipe runs."""
+    with open(f"{TOP}/docs/formats.md") as page:
+        pipe = re.search(r"```\n(kcat -b HOST.*?)```", page.read(), re.S).group(1)
+    cluster = MockCluster({"orders": 1, "routed": 1})
+    for word, given in (("HOST:9092", cluster.servers), ("/tmp/klog/libklog.so", library), ("route.bin", KEEP)):
+        pipe = pipe.replace(word, given)
+    produce, wanted = ["kcat", "-b", cluster.servers, "-t", "orders", "-P", "-K", "\t"], b""
+    with subprocess.Popen(["bash", "-c", pipe], cwd=TOP, start_new_session=True, stderr=subprocess.DEVNULL) as whole:
+        try:
+            for first in (0, 200):
+                lines = b"".join(b"key %d\t%c value %d\n" % (k, b"AB"[k % 2], k) for k in range(first, first + 200))
+                run(produce, lines)
+                wanted += b"".join(line for line in lines.splitlines(keepends=True) if b"\tA" in line)
+                wait_for_routed(cluster.servers, wanted)
+        finally:
+            os.killpg(whole.pid, signal.SIGKILL)
+    print("the page's pipe: a topic's records, and those that came while it ran")
+
+
+def wait_for_routed(servers, wanted):
+    """Waits until a topic has these lines, but for those that wait in kcat for more of its input."""
+    end = time.monotonic() + 120
+    while True:
+        found = run(["kcat", "-q", "-b", servers, "-t", "routed", "-C", "-e", "-f", "%k\\t%s\\n"], b"").stdout
+        if not wanted.startswith(found) or time.monotonic() > end:
+            sys.exit(f"the page's pipe: {found!r}, not {wanted!r}")
+        if len(found) > len(wanted) - KCAT_READS:
+            return
+        time.sleep(0.5)
+
+
 def main():
     if len(sys.argv) != 2:
         sys.exit(__doc__)
     library = os.path.abspath(sys.argv[1])
     alone(library)
     with_kcat(library)
+    as_the_page_says(library)
 
 
 if __name__ == "__main__":
