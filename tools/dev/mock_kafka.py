@@ -12,7 +12,7 @@ version 2.0.2 it was seen, and its source says, that
 
 And of groups its source says that
 
-- a SyncGroup that comes after the leader's is refused, and all join again, which on a busy machine goes on for minutes;
+- a SyncGroup that comes after the leader's is INVALID_REQUEST, and all join again, on a busy machine for minutes;
 - it doesn't notice that a connection was closed while it owes the answer to a JoinGroup there, and ends by an assertion
   (rd_kafka_mock_cgrp_member_add) as soon as that member joins by another connection.
 
@@ -36,7 +36,7 @@ from kafka_clients import Reader, text
 PRODUCE, FETCH, LIST_OFFSETS, METADATA, OFFSET_COMMIT, OFFSET_FETCH, FIND_COORDINATOR = 0, 1, 2, 3, 8, 9, 10
 JOIN_GROUP, HEARTBEAT, LEAVE_GROUP, SYNC_GROUP, API_VERSIONS = 11, 12, 13, 14, 18
 INIT_PRODUCER_ID, ADD_PARTITIONS, ADD_OFFSETS, END_TRANSACTION, TRANSACTION_OFFSETS = 22, 24, 25, 26, 28
-UNKNOWN_MEMBER, REBALANCING, UNSUPPORTED_VERSION, INVALID_EPOCH, INVALID_STATE, UNSTABLE = 25, 27, 35, 47, 48, 88
+UNKNOWN_MEMBER, UNSUPPORTED_VERSION, INVALID_REQUEST, INVALID_EPOCH, INVALID_STATE, UNSTABLE = 25, 35, 42, 47, 48, 88
 
 # The versions that the front offers: those whose fields it reads.
 VERSIONS = [(PRODUCE, 0, 3), (FETCH, 0, 4), (LIST_OFFSETS, 0, 1), (METADATA, 0, 1), (OFFSET_COMMIT, 0, 2), (OFFSET_FETCH, 0, 1),
@@ -284,8 +284,9 @@ class Front:
         at = 4 if version < 1 else 8
         with self.lock:
             given, shares = self.shares.get(group, (None, {}))
-            is_late = struct.unpack_from(">h", answer, at)[0] == REBALANCING and given == generation and member in shares
-            is_late = is_late and self.groups[group][0] == generation
+            is_late = struct.unpack_from(">h", answer, at)[0] == INVALID_REQUEST and given == generation and member in shares
+            if is_late:
+                self.ends["shares asked for late"] += 1
         return answer[:at] + b"\0\0" + framed(shares[member]) if is_late else answer
 
     def fetch_offsets(self, request, fields, version, behind):
