@@ -2,7 +2,7 @@
 
 ghost use Rattle.std.specs.Prelude.{◌≡◌, ◌≢◌, ℕ, List, true, false, Some, IfOk, OnOk, OnErr, IfSome};
 ghost use Rattle.std.specs.Bool.{OnTrue};
-ghost use Rattle.core.specs.Option.{option_copied};
+ghost use Rattle.std.specs.Option.{option_copied};
 ghost use Rattle.commands.specs.Files.{KeepsAll, word_of};
 ghost use Rattle.commands_tests.specs.Shelves.{bytes_in, left_of};
 
