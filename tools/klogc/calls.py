@@ -8,7 +8,7 @@ from .memory import Memory, bytes_text, span
 from .program import STACK
 from .state import State
 from .values import LENGTH_TERMS, added, number, signed, unsigned
-from .writer import Again, Given, region_text
+from .writer import Given, region_text
 
 LOADS = {1: "value", 2: "key"}
 
@@ -107,7 +107,7 @@ class Calls(Memory):
         v, n = part.address.value, part.length.value
         if self.learned.rooms < made + 1:
             self.learned.rooms = made + 1
-            raise Again
+            self.again = True
         end = added(v.in_region(None), n)
         certain = s.is_inside(end, 0, v.region) or self.is_end(s, v, n)
         if not certain:
@@ -175,7 +175,7 @@ class Calls(Memory):
         size = len(self.program.obj.section(section).data)
         low, high = signed(v)
         _, last = self.constant_range(section, low, high + unsigned(part.length.value)[1], size)
-        self.stack_bytes(s, part, arguments, last, self.constants_at[section] - STACK)
+        self.stack_bytes(s, part, arguments, last, self.constants_at.get(section, 0) - STACK)
 
     def stack_bytes(self, s: State, part: Bytes, arguments, top, adds):
         """Bytes of the stack before its byte `top`, of places that begin `adds` after its end."""

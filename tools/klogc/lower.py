@@ -8,7 +8,7 @@ from .layout import SLOTS, filled, laid_out, view
 from .lowering import Lowering
 from .program import STACK, Program, Refused
 from .registers import Allocator, trimmed
-from .writer import Again, Learned, Settings, TooLong
+from .writer import Learned, Settings, TooLong
 
 MOST_RUNS, MOST_TRIES, MOST_FILLS = 200, 40, 4
 ROUNDS = 64
@@ -71,13 +71,14 @@ def tried(program, settings, learned):
 def attempt(program, settings, learned):
     """One run of the lowering, begun again with what it learned of the stack; no blocks where they are too many."""
     for _ in range(MOST_RUNS):
-        lowering = Lowering(program, settings, learned)
+        lowering, blocks = Lowering(program, settings, learned), None
         try:
-            return lowering, lowering.run()
-        except Again:
-            continue
-        except TooLong:
-            return lowering, None
+            blocks = lowering.run()
+        except (Refused, TooLong) as end:
+            if isinstance(end, Refused) and not lowering.again:
+                raise
+        if not lowering.again:
+            return lowering, blocks
     raise Refused("the function uses the stack in too many ways", program.line(program.entry))
 
 

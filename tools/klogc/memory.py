@@ -4,7 +4,7 @@ from .jumps import Jumps
 from .program import STACK
 from .state import Held, State
 from .values import M64, MIXED, Value, changed, const, low32, number, signed, unsigned
-from .writer import Again, Given, region_text
+from .writer import Given, region_text
 
 FAR_OFFSET = 32000
 
@@ -41,8 +41,7 @@ class Memory(Jumps):
         hit = [at for at, size in variables.items() if at < hi and lo < at + size]
         for at in hit:
             del variables[at]
-        if hit:
-            raise Again
+            self.again = True
 
     def bounded(self, s: State, given: Given, offset, low, high):
         """A variable for an index, what is to be added to it, and its bounds, where the sum must be from low to high."""
@@ -168,7 +167,7 @@ class Memory(Jumps):
         if lo < 0 or hi > len(data):
             self.may_fault("an index may lead outside a constant: test first that it is below the number of elements")
         first, last = self.constant_range(section, lo, hi, len(data))
-        at, add = self.point(s, given, offset, (first, last - size), FRAME, self.constants_at[section] - STACK)
+        at, add = self.point(s, given, offset, (first, last - size), FRAME, self.constants_at.get(section, 0) - STACK)
         self.emit(Load(size, is_signed, self.name(dst), at, add))
         self.set(s, dst, known)
 
@@ -185,7 +184,7 @@ class Memory(Jumps):
         known = self.learned.constants.get(section)
         if known is None or first < known[0] or last > known[1]:
             self.learned.constants[section] = (first, last) if known is None else (min(first, known[0]), max(last, known[1]))
-            raise Again
+            self.again = True
         return first, last
 
     # ---- the record's bytes

@@ -62,6 +62,7 @@ class Program:
             raise Refused(f"there is no function `{name}`; {known_functions(self.obj)}")
         self.functions = {(s.section, s.value // 8): s for s in self.obj.functions()}
         self.sections, self.lines, self.held = {}, {}, {}
+        self.functions_of = {}  # what meaning.py makes of the sections
         self.entry = Place((), found[0].section, found[0].value // 8)
         self.blocks = {}
         left = [self.entry]

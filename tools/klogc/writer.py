@@ -12,10 +12,6 @@ class TooLong(Exception):
     """The code has more slots than an image may have."""
 
 
-class Again(Exception):
-    """The pass begins again with what it learned."""
-
-
 class Ended(Exception):
     """The way ends here in any case; its end is written."""
 
@@ -51,6 +47,7 @@ class Writer:
     def __init__(self, program: Program, settings: Settings, learned: Learned):
         self.program, self.settings, self.learned = program, settings, learned
         self.blocks, self.size, self.made = [], 0, 0
+        self.again = False  # whether it learned what it did not know from the beginning; then it goes on only to learn more
         self.rejects: dict[str, set] = {trap: set() for trap in TRAPS}
         self.here: Place = program.entry
         self.out: list = []
