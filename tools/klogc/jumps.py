@@ -116,6 +116,8 @@ class Jumps(Numbers):
                 if not (t.narrow(test.v, *p) and t.narrow(test.w, *q)):
                     continue
                 learn(t, holds, test)
+            elif not (narrow_low(t, test, test.v, p) and narrow_low(t, test, test.w, q)):
+                continue
             ends[side] = t
         return ends
 
@@ -160,6 +162,14 @@ class Jumps(Numbers):
         self.emit(Exit(self.spelled(s.current(v), self.name(0))))
 
 
+def narrow_low(t: State, test: Comparison, v, interval):
+    """Learns what a test of 32 bits says of a number that has no more. False where that can't be."""
+    lo, hi = interval
+    if low32(v) != v or lo < 0 <= hi:
+        return True
+    return t.narrow(v, lo, hi) if lo >= 0 else t.narrow(v, lo + (1 << 32), hi + (1 << 32))
+
+
 def learn(t: State, holds, test: Comparison):
     """The facts of a test of 64 bits that holds. A signed one says them too of numbers that are not negative."""
     if test.v.region == test.w.region:
@@ -167,6 +177,10 @@ def learn(t: State, holds, test: Comparison):
             t.learn(test.v, test.w, holds == "lt")
         if holds in ("gt", "ge", "eq"):
             t.learn(test.w, test.v, holds == "gt")
+        if holds == "ne":
+            for v, w in ((test.v, test.w), (test.w, test.v)):
+                if t.gap(v, w) == 0:
+                    t.learn(v, w, True)
 
 
 def is_impossible(s: State, holds, test: Comparison):

@@ -2,7 +2,7 @@
 from .code import LENGTH, OUTSIDE, Alu, Change, Move, Test
 from .program import INTRINSICS
 from .state import State
-from .values import M32, M64, MIXED, REGION_OF, added, changed, const, low32, quotient32, result
+from .values import M32, M64, MIXED, REGION_OF, added, changed, const, low32, number, quotient32, result, signed, unsigned
 from .writer import Given, Writer
 
 COMMUTATIVE = {"add", "mul", "and", "or", "xor"}
@@ -51,8 +51,8 @@ class Numbers(Writer):
                 self.or_address(s, dst, x, y, region)
                 return
         known = result(name, width, v.in_region(None), w.in_region(None)).in_region(region)
-        if width == 64 and w.is_const() and not known.is_const() and region is None:
-            known = shifted_back(s, name, v, w.lo, known)
+        if region is None and v.region is None and not known.is_const():
+            known = related(s, name, width, (v, w), known)
         self.set(s, dst, known)
         if known.is_const():
             self.emit(Move(self.name(dst), known.lo, 64))
@@ -132,6 +132,59 @@ class Numbers(Writer):
         """What a call leaves in r1 to r5: nothing."""
         for r in range(1, 6):
             s.variables.pop(self.name(r), None)
+
+
+def related(s: State, name, width, operands, known):
+    """What is known of a result by how its operands came about."""
+    v, w = operands
+    if width == 32 and (low32(v) != v or low32(w) != w):
+        return known
+    if width == 64 and w.is_const() and name in ("lsh", "rsh", "arsh"):
+        known = shifted_back(s, name, v, w.lo, known)
+    if known.c == 0 and (name == "div" or name == "rsh" and w.is_const()):
+        divisor = w if name == "div" else power(w, width)
+        s.quotients[known.terms] = v, divisor
+        if divisor.is_const() and v.length_region() and v.c == 0:
+            s.scales[known.terms] = v.length_region(), divisor.lo
+    elif name == "mul":
+        multiplied(s, v, w, known)
+        multiplied(s, w, v, known)
+    elif name == "lsh" and w.is_const():
+        multiplied(s, v, power(w, width), known)
+    elif name == "sub":
+        known = s.difference(remainder(s, v, w, known), v, w) if width == 64 else remainder(s, v, w, known)
+    elif name == "add" and width == 64:
+        for n, less in ((v, w), (w, v)):
+            known = s.difference(known, n, added(const(0), less, -1)) if signed(less)[1] < 0 else known
+    elif name == "mod" and w.lo > 0:
+        s.learn(known, w, True)
+    return known
+
+
+def power(count, width):
+    """What a shift by a constant multiplies or divides by."""
+    return const(1 << count.lo % width)
+
+
+def multiplied(s: State, quotient, factor, known):
+    """A quotient times its divisor is the dividend without the remainder."""
+    of, by = s.quotients.get(quotient.terms, (None, None)) if quotient.c == 0 else (None, None)
+    if of is not None and same(by, factor) and known.c == 0:
+        s.multiples[known.terms] = of, by
+
+
+def remainder(s: State, v, w, known):
+    """What is known of v - w: where w is a multiple of a divisor, made of v, it is the remainder."""
+    of, by = s.multiples.get(w.terms, (None, None)) if w.c == 0 else (None, None)
+    if of is None or not same(of, v) or by.lo <= 0:
+        return known
+    known = number(0, min(unsigned(v)[1], unsigned(by)[1] - 1))
+    s.learn(known, s.current(by), True)
+    return known
+
+
+def same(v, w):
+    return v.lo == w.lo if v.is_const() and w.is_const() else v.terms is not None and (v.terms, v.c) == (w.terms, w.c)
 
 
 def shifted_back(s: State, name, v, count, known):

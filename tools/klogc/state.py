@@ -1,9 +1,10 @@
 """What is known at one place of the code: of each variable, of the stack's bytes, and of the record's lengths."""
+import collections
 import itertools
 from typing import NamedTuple
 
 from .code import Variable
-from .values import LENGTH_TERMS, LIMIT, M64, MIXED, REGION_OF, Value, added, const, joined, number, small, summed, window
+from .values import LENGTH_TERMS, LIMIT, M64, MIXED, MOST_TERMS, REGION_OF, Value, added, const, joined, number, small, summed, window
 
 FAR = 1 << 62
 
@@ -20,7 +21,8 @@ class State:
     `least` and `most` bound the record's lengths; `sure` is the least length that the verifier knows too.
     `facts` say of terms and a region what may be added to the terms so that the sum is still at most the region's length, and
     `floors` of such terms what they are at least, as a whole number, not modulo 2^64. `shifts` say of terms which number it was
-    that was shifted to the left, and by how much."""
+    that was shifted to the left, and by how much; `quotients` of which numbers they are the quotient, `multiples` that they are such
+    a quotient times the divisor again, and `scales` with which factor they are at most a region's length."""
 
     def __init__(self):
         self.variables: dict[Variable, Value] = {}
@@ -31,12 +33,15 @@ class State:
         self.facts: dict[tuple, int] = {}
         self.floors: dict[tuple, int] = {}
         self.shifts: dict[tuple, tuple[int, Value]] = {}
+        self.quotients: dict[tuple, tuple[Value, Value]] = {}
+        self.multiples: dict[tuple, tuple[Value, Value]] = {}
+        self.scales: dict[tuple, tuple[str, int]] = {}
 
     def copy(self):
         s = State()
         s.variables, s.memory, s.words = dict(self.variables), dict(self.memory), dict(self.words)
         s.least, s.most, s.sure, s.facts, s.floors = dict(self.least), dict(self.most), dict(self.sure), dict(self.facts), dict(self.floors)
-        s.shifts = dict(self.shifts)
+        s.shifts, s.quotients, s.multiples, s.scales = dict(self.shifts), dict(self.quotients), dict(self.multiples), dict(self.scales)
         return s
 
     # ---- ways that meet
@@ -45,12 +50,14 @@ class State:
         s, related = State(), {}
         s.facts = {x: min(k, other.facts[x]) for x, k in self.facts.items() if x in other.facts}
         s.floors = {x: min(k, other.floors[x]) for x, k in self.floors.items() if x in other.floors}
-        s.shifts = {x: k for x, k in self.shifts.items() if other.shifts.get(x) == k}
+        for name in ("shifts", "quotients", "multiples", "scales"):
+            setattr(s, name, dict(getattr(self, name).items() & getattr(other, name).items()))
         for v, mine in self.variables.items():
             both = self._joined(s, related, mine, other, other.variables.get(v))
             if both is not None:
                 s.variables[v] = both
         self._join_parts(s, other)
+        self._join_order(s, other)
         for at, (size, mine) in self.memory.items():
             theirs = other.memory.get(at)
             if theirs and theirs.size == size:
@@ -63,7 +70,8 @@ class State:
 
     def _joined(self, s, related, mine, other, theirs):
         """What is known of a number on both ways. Where it is new, so are its terms; but numbers that differ by one constant on both
-        ways still do, which `related` has: of what they are on both ways, the new terms and the first one's constant."""
+        ways still do, and so do those whose sum is one constant on both ways, which `related` has: of what they are on both ways, or of
+        what they are negated, the new terms and the first one's constant."""
         if mine is None or theirs is None:
             return None
         if (mine.terms, mine.c) != (theirs.terms, theirs.c):
@@ -76,8 +84,10 @@ class State:
             terms, c = related[key]
             return both._replace(terms=terms, c=(mine.c - c) & M64)
         related[key] = both.terms, mine.c
+        related[turned(mine.terms), turned(theirs.terms), -key[2] & M64] = turned(both.terms), -mine.c & M64
         for region in LIMIT:
             s.keep_fact(both.terms, region, (self.slack(mine, region), other.slack(theirs, region)), 0)
+            s.keep_fact(turned(both.terms), region, (self.slack(negated(mine), region), other.slack(negated(theirs), region)), 0)
         return both
 
     def keep_fact(self, terms, region, slacks, c):
@@ -98,6 +108,25 @@ class State:
                 slacks = [side.slack(added(side.variables[at].in_region(None), side.variables[count]), place.region) for side in (self, other)]
                 s.keep_fact(summed(place, number_of, 1), place.region, slacks, small((place.c + number_of.c) & M64))
 
+    def _join_order(self, s, other):
+        """Of numbers that are places in the record and of which one is not the same on both ways: that the one is at least the other."""
+        places = [v for v, both in s.variables.items() if both.region is None and any((both.terms, region) in s.facts for region in LIMIT)]
+        new = {v for v in places if s.variables[v].terms != self.variables[v].terms}
+        for end, start in itertools.product(new, places):
+            if start not in new:
+                least = [side.least_difference(side.variables[end], side.variables[start]) for side in (self, other)]
+                apart = added(s.variables[end], s.variables[start], -1)
+                if None not in least and apart.terms:
+                    s.floors[apart.terms] = max(min(least) - small(apart.c), s.floors.get(apart.terms, -FAR))
+
+    def least_difference(self, v, w):
+        """The least that v - w is known to be, where that is not negative; or None."""
+        apart, region = self.settled(added(v, w, -1)), v.length_region()
+        if apart.lo >= 0 and apart.hi >> 63 == 0:
+            return apart.lo
+        slack = self.slack(w, region) if region else None
+        return None if slack is None or slack + small(v.c) < 0 else slack + small(v.c)
+
     def _word(self, other, at):
         mine, theirs = self.words.get(at, other.words.get(at)), other.words.get(at, self.words.get(at))
         return mine if mine == theirs else MIXED
@@ -113,14 +142,42 @@ class State:
         return const(lo, v.region) if lo == hi else number(lo, hi, None, v.terms, v.c, v.region)
 
     def learn(self, v, w, less):
-        """v is at most w, or below it: where w is a length but for a constant, that is a fact of v."""
-        region = w.length_region()
-        if region is None or v.terms is None or v.lo < 0 or v.hi >> 63 or w.lo < 0 or max(abs(small(v.c)), abs(small(w.c))) >= FAR:
+        """v is at most w, or below it. Where a sum of w and others is known to be at most a length, that is a fact of the sum of v and
+        these: of v itself, where w is at most a length."""
+        v, w = self.settled(v), self.settled(w)
+        if not (is_whole(v) and is_whole(w)) or w.terms is None:
             return
-        key, k = (v.terms, region), small(v.c) - small(w.c) + less
-        self.facts[key] = max(k, self.facts.get(key, k))
-        self.floors[v.terms] = max(v.lo - small(v.c), self.floors.get(v.terms, -FAR))
-        self._raise_least(v, v.lo)
+        known = [(terms, region, 0) for region, terms in LENGTH_TERMS.items()]
+        known += [(terms, region, k) for (terms, region), k in self.facts.items() if w.terms[0] in terms or w.terms[-1] in terms]
+        for terms, region, k in known:
+            if (terms, region) != (v.terms, region):
+                self._learn_sum(v, w, less, (terms, region, k))
+
+    def _learn_sum(self, v, w, less, known):
+        """Terms and k are at most a region's length together, and v at most w, or below it."""
+        terms, region, k = known
+        left = joined_terms(v.terms or (), terms, turned(w.terms))
+        if not left or len(left) > MOST_TERMS or left != v.terms and any(factor < 0 or term == LENGTH_TERMS[region][0][0] for term, factor in left):
+            return
+        k += small(v.c) - small(w.c) + less
+        self.facts[left, region] = max(k, self.facts.get((left, region), k))
+        if left == v.terms:
+            self.floors[left] = max(v.lo - small(v.c), self.floors.get(left, -FAR))
+            self._raise_least(v, v.lo)
+
+    def difference(self, known, v, w):
+        """v - w, where v is a length but for a constant and w is known to be at most that."""
+        region, w = v.length_region(), self.settled(w)
+        slack = self.slack(w, region) if region and known.terms is not None and abs(small(v.c)) < FAR else None
+        if slack is None or slack + small(v.c) < 0:
+            return known
+        lo, hi = slack + small(v.c), self.most[region] + small(v.c) - w.lo
+        if lo >= hi:
+            return known
+        less = small(known.c) + w.lo - small(v.c)
+        self.facts[known.terms, region] = max(less, self.facts.get((known.terms, region), less))
+        self.floors[known.terms] = max(lo - small(known.c), self.floors.get(known.terms, -FAR))
+        return number(lo, hi, None, known.terms, known.c)
 
     def _raise_least(self, v, lo):
         """A number is at least lo, and so are the lengths that it is known to be within."""
@@ -129,6 +186,9 @@ class State:
                 fact = self.facts.get((v.terms, region))
                 if fact is not None:
                     self.least[region] = max(self.least[region], lo - small(v.c) + fact)
+            if v.terms in self.scales:
+                region, factor = self.scales[v.terms]
+                self.least[region] = max(self.least[region], (lo - small(v.c)) * factor)
 
     def gap(self, v, w):
         """The most that is known to be possible to add to v so that it is still at most w, a length but for a constant; or None."""
@@ -216,6 +276,28 @@ class State:
                     return held.value.lo >> 8 * (place - at) & 255
                 return None
         return None
+
+
+def joined_terms(*parts):
+    """The terms of a sum of terms."""
+    factors = collections.Counter()
+    for term, factor in itertools.chain(*parts):
+        factors[term] += factor
+    return tuple(sorted((term, factor) for term, factor in factors.items() if factor))
+
+
+def negated(v):
+    return added(const(0), v, -1)
+
+
+def turned(terms):
+    """The terms of the negated number."""
+    return None if terms is None else tuple((term, -factor) for term, factor in terms)
+
+
+def is_whole(v):
+    """Whether a number and its terms' sum are the same modulo 2^64 and as whole numbers."""
+    return v.lo >= 0 and v.hi >> 63 == 0 and abs(small(v.c)) < FAR
 
 
 def narrowed(x, v, lo, hi):

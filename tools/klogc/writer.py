@@ -132,7 +132,7 @@ class Writer:
         v = s.variables.get(self.name(r))
         if v is None:
             self.fail("a variable is read that may not be set: give it a value where it is declared")
-        return s.current(v)
+        return s.settled(v)
 
     def operand(self, s: State, source, width=64):
         """A register or an immediate."""

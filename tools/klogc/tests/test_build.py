@@ -44,6 +44,20 @@ ACCEPTED = [
     ("copied", "\tu8 to[16] = {0};\n\tu64 n = value_length < 16 ? value_length : 16;\n\tfor (u64 i = 0; i < n; i++)\n\t\tto[i] = value[n - 1 - i];\n\treturn to[0];", [(Record(b"k", b"abc"), 99), (Record(b"k", b"b" + b"a" * 20), 97)]),
     ("switched", "\tswitch (value_length) { case 0: return 5; case 1: return 9; case 2: return 4; case 3: return 44; case 4: return 3; case 5: return 70; }\n\treturn 1;",
      [(Record(b"k", b"abc"), 44), (Record(b"k", b"abcdef"), 1)]),
+    ("after_last", "\tu64 at = 0, all = 0;\n\tif (key_length > 9)\n\t\treturn 1;\n\tfor (u64 i = key_length; i > 0; i--)\n\t\tif (key[i - 1] == '@') {\n\t\t\tat = i;\n\t\t\tbreak;\n\t\t}"
+     "\n\tif (at == 0 || at == key_length)\n\t\treturn 2;\n\tfor (u64 i = at; i < key_length; i++)\n\t\tall = all * 3 + key[i];\n\treturn all;", [(Record(b"a@bc", b""), 98 * 3 + 99), (Record(b"ab@", b""), 2), (Record(b"@@b", b""), 98)]),
+    ("turned", "\tu64 all = 0;\n\tif (key_length < 3 || key_length > 9)\n\t\treturn 1;\n\tfor (u32 i = 0; i < key_length; i++)\n\t\tall = all * 3 + key[(i + 4) % key_length];\n\treturn all;",
+     [(Record(b"abc", b""), (98 * 3 + 99) * 3 + 97), (Record(b"ab", b""), 1)]),
+    ("pairs", "\tu64 all = 0;\n\tif (value_length > 8 || value_length & 1)\n\t\treturn 1;\n\tfor (u64 i = 0; i < value_length / 2; i++)\n\t\tall = all * 5 + value[2 * i] * 2 + value[2 * i + 1];\n\treturn all + 2;",
+     [(Record(b"k", b"abcd"), (97 * 2 + 98) * 5 + 99 * 2 + 100 + 2), (Record(b"k", b""), 2), (Record(b"k", b"abc"), 1)]),
+    ("month", "\tstatic const u16 days[4] = {31, 28, 310, 30};\n\tint month = key_length ? key[0] - '0' : -1;\n\tif (month < 1 || month > 4)\n\t\treturn 1;\n\treturn days[month - 1];",
+     [(Record(b"3", b""), 310), (Record(b"0", b""), 1), (Record(b"", b""), 1)]),
+    ("sum_at_end", "\tu64 star = 0;\n\tif (value_length > 9)\n\t\treturn 1;\n\tfor (u64 i = 1; i < value_length; i++)\n\t\tif (value[i] == '*') {\n\t\t\tstar = i;\n\t\t\tbreak;\n\t\t}\n\tif (star == 0 || star + 3 != value_length)"
+     "\n\t\treturn 2;\n\treturn value[star + 1] * 3 + value[star + 2];", [(Record(b"k", b"$a*bc"), 98 * 3 + 99), (Record(b"k", b"$a*b"), 2), (Record(b"k", b"*"), 2)]),
+    ("escapes", "\tu64 all = 0, i = 0;\n\tif (value_length > 24)\n\t\treturn 1;\n\twhile (i < value_length) {\n\t\tif (value[i] == '%') {\n\t\t\tif (i + 2 >= value_length)\n\t\t\t\treturn 2;\n\t\t\tall += value[i + 1] * value[i + 2];\n\t\t\ti += 3;"
+     "\n\t\t} else {\n\t\t\tall++;\n\t\t\ti++;\n\t\t}\n\t}\n\treturn all + 3;", [(Record(b"k", b"a%bcd"), 98 * 99 + 5), (Record(b"k", b"a%b"), 2), (Record(b"k", b"a" * 20), 23)]),
+    ("smaller_end", "\tu64 start = 0;\n\tfor (u64 i = 0; i < 4 && i + 2 <= value_length; i++)\n\t\tif (value[i] == ':') {\n\t\t\tstart = i + 1;\n\t\t\tbreak;\n\t\t}\n\tif (!start)\n\t\treturn 1;\n\tu64 end = value_length < start + 6 ? value_length : start + 6;"
+     "\n\tfor (u64 i = start; i < end; i++)\n\t\tif (value[i] == '/')\n\t\t\treturn i;\n\treturn 99;", [(Record(b"k", b"ab:c/"), 4), (Record(b"k", b":aaaaaaaaaaa/"), 99), (Record(b"k", b"a:"), 1)]),
     ("no_room", "\tu8 to[4] = {0};\n\treturn 5 + load_value(to, 3, value_length & 0);", [(Record(b"k", b"ab"), 6), (Record(b"k", b"abc"), 5)]),
 ]
 
