@@ -1,7 +1,7 @@
 #!/usr/bin/env python3
 """Compares random C programs with what klogc makes of them, on random records.
 
-    tools/klogc/tests/compare.py [--seed SEED] [--programs N] [--records N] [--level=-O1|-O2|-Os] [--compiler CLANG]
+    tools/klogc/tests/compare.py [--seed SEED] [--programs N] [--records N] [--level=-O1|-O2|-Os] [--compiler CLANG] [--option=OPTION]
 
 The object's code and the image run by klogc's interpreter (meaning.py), and with one record in ten the image runs on the machine of
 tools/dev too. Where the object's code does what it must not, the image may do anything but trap; a program that is refused for it
@@ -26,15 +26,16 @@ import second_machine
 from second_broker import Record as Spelled
 
 OUTPUTS = 4
-PROGRAMS_IN_ONE = 10
+PROGRAMS_IN_ONE = 25
 LOOP, ROOM = 251, 250
 MACHINE_EVERY = 10
 TEXTS = (b'{"id":1,"name":"x"}', b"a,b,c", b"key=value", b"4111111111111111", b"Hello, World\n", b"}", b"2026-11-26 x", b"heartbeat", b"07\x03abc", b"\x08\x96\x01")
+EDGES = (0, 1, 2, 7, 8, 99, 127, 128, 255, 256, 32767, 32768, 65535)
 HEADERS = ((), (), ((b"trace", b"eu"),), ((b"x", None), (b"region", b"")), ((b"a", b"1"),) * 16)
 
 
 def some_bytes(r):
-    match r.randrange(6):
+    match r.randrange(8):
         case 0:
             return r.choice((None, b""))
         case 1:
@@ -43,6 +44,8 @@ def some_bytes(r):
             return bytes(r.choice(b"a0,. \n\xff") for _ in range(r.randrange(40)))
         case 3:
             return r.randbytes(r.choice((1, 2, 3, 4, 7, 8, 9, 12, 16, 31, 32, 33)))
+        case 6 | 7:
+            return b"".join(n.to_bytes(r.choice((2, 4, 8)), "little") for n in r.choices(EDGES, k=r.choice((4, 6))))
         case 4:
             return b"".join(r.choice(TEXTS) for _ in range(r.randrange(1, 4)))
     return r.randbytes(r.randrange(24))
@@ -115,6 +118,7 @@ def compared(data, name, seed, count):
     if fault:
         return tally, f"not verified: {fault}"
     tally["strict" if strict else "with 252"] += 1
+    tally["instructions"] += len(code)
     for k, record in enumerate(records(seed, count)):
         got = image_outcome(made, record)
         word = judged(object_outcome(program, record), got, strict)
@@ -153,10 +157,11 @@ def main():
     words.add_argument("--records", type=int, default=50)
     words.add_argument("--level", default=LEVEL, choices=("-O1", "-O2", "-Os"))
     words.add_argument("--compiler")
+    words.add_argument("--option", action="append", default=["-ffunction-sections", "-g0"], help="one more of the compiler's options, as --option=-mcpu=v4")
     given, tally, bad = words.parse_args(), collections.Counter(), 0
     sys.setrecursionlimit(20000)
     with tempfile.TemporaryDirectory(prefix="klogc-") as folder:
-        compiler = Compiler(given.compiler, given.level)
+        compiler = Compiler(given.compiler, given.level, given.option)
         for seed in range(given.seed, given.seed + -(-given.programs // PROGRAMS_IN_ONE)):
             found, wrong = compare(compiler, seed, PROGRAMS_IN_ONE, given.records, folder)
             tally += found

@@ -40,13 +40,13 @@ FAULTS = [
     Fault("a remainder is the dividend", values, "divided", lambda old: lambda name, a, b: a if name == "mod" and not a.is_const() else old(name, a, b)),
     Fault("of two ways the first counts", values, "joined", lambda old: lambda a, b: a),
     Fault("32 bits keep all", values, "low32", lambda old: lambda v: v),
-    Fault("a sign is not extended", values, "changed", lambda old: lambda change, a: a if change[0] == "movsx" else old(change, a)),
+    Fault("a sign does not follow a shift", values, "shifted", lambda old: lambda name, bits, a, b: old("rsh" if name == "arsh" else name, bits, a, b)),
     Fault("a difference is a sum", values, "added", lambda old: lambda a, b, sign=1: old(a, b, 1)),
     Fault("an `or` is its first number", values, "ored", lambda old: lambda name, a, b: a),
     Fault("a mirrored test takes the end too", jumps, "MIRRORED", lambda old: {**old, "gt": "le", "lt": "ge"}),
     Fault("an opposite is a mirror", jumps, "OPPOSITE", lambda old: {**old, "gt": "lt", "lt": "gt"}),
     Fault("a test's end is one off", jumps, "halves", one_more),
-    Fault("signed tests are unsigned", jumps.Comparison, "plain", lambda old: lambda self: self.name.removeprefix("s") if self.name != "set" else self.name),
+    Fault("signed tests are unsigned", jumps.Comparison, "interval", lambda old: lambda self, v: old(self._replace(name=self.plain()), v)),
     Fault("all tests have 64 bits", jumps.Comparison, "simpler", lambda old: lambda self: self._replace(width=64)),
     Fault("what differs is moved the wrong way", state, "narrowed", lambda old: lambda x, v, lo, hi: old(x, v, lo + 2 * (v.c - x.c) % 7, hi)),
     Fault("stores leave what was known", state.State, "forget", lambda old: lambda self, lo, hi: None),
@@ -127,7 +127,7 @@ def found(objects, seed, count):
 def main():
     words = argparse.ArgumentParser(description="Plants faults in the pass, and says whether random programs find each.")
     words.add_argument("--seed", type=int, default=1)
-    words.add_argument("--programs", type=int, default=40)
+    words.add_argument("--programs", type=int, default=200)
     words.add_argument("--records", type=int, default=20)
     words.add_argument("words", nargs="*", metavar="WORD")
     given, missed, objects = words.parse_args(), 0, []
@@ -137,7 +137,7 @@ def main():
             path = os.path.join(folder, f"seed{seed}.c")
             with open(path, "w", encoding="utf-8") as it:
                 it.write(source(seed, PROGRAMS_IN_ONE))
-            objects.append(Compiler().object_of(path))
+            objects.append(Compiler(more=("-ffunction-sections",)).object_of(path))
     chosen = [fault for fault in FAULTS if not given.words or any(word in fault.name for word in given.words)]
     for fault in chosen:
         with Planted(fault):

@@ -22,6 +22,12 @@ static %(inline)su64 %(name)s_sum(const u8 *p, u64 n)
 		all = all * 31 + p[i];
 	return all + %(name)s_own(n, 3);
 }
+static %(inline)su64 %(name)s_local(u64 a, u64 n)
+{
+	u8 own[16] = {4, 5, 6};
+	for (u64 i = 0; i < 4; i++) own[(i * 3 + n) & 15] = a >> 8 * i;
+	return own[n & 15] + own[1] * 256;
+}
 static %(inline)svoid %(name)s_fill(struct row *to, u64 a)
 {
 	to->kind = a; to->low = a >> 3; to->high = a * 5; to->sum = ~a; to->sign = a;
@@ -33,26 +39,47 @@ u64 %(name)s(const u8 *value, u64 value_length, const u8 *key, u64 key_length, u
 	u64 a = value_length, b = key_length, c = record_offset(), d = 1, e = 2, f = 3;
 	u32 x = nulls, y = record_timestamp(); int s = -3; short h = 7; u8 t = 9; signed char z = -1;
 	u8 buf[32] = {1, 2, 3}; u64 w[4] = {0}; struct row row = {0}, other = {0};
+	volatile u32 kept = 5; volatile u64 far = 6;
+%(begin)s
 %(statements)s
-	w[0] ^= a + d; w[1] ^= b ^ c ^ e; w[2] ^= x ^ (u64)y << 32 ^ f; w[3] ^= (u64)s << 8 ^ t ^ h ^ z;
-	w[1] += row.kind + row.low + row.high + row.sum + row.sign; w[2] -= other.sum;
-	emit_value(a & 3, buf, 32);
-	return emit_value(1, w, 32);
+%(end)s
 }
 """
+BEGINS = (
+    "",
+    """	load_value(w, 0, 16); load_key(w + 2, 1, 8);
+	d = w[0]; e = w[1]; f = w[2]; s = w[0] >> 5; h = w[1]; t = w[2]; z = w[0];""",
+    """	if (value_length >= 8) { d = *(const u64 *)value; s = *(const int *)(value + 3); h = *(const short *)(value + 1); x = s; }
+	if (key_length >= 4) { e = *(const u32 *)key; t = key[3]; z = key[2]; y = e; }""",
+    """	load_value(w, 4, 12); other.sum = w[0]; row.sum = w[1]; d = w[0] % 1000; e = w[1] & 255; x = w[0]; y = w[1]; s = w[0] >> 32; far = w[1];""",
+)
+ENDS = (
+    """	w[0] ^= a + d; w[1] ^= b ^ c ^ e; w[2] ^= x ^ (u64)y << 32 ^ f; w[3] ^= (u64)s << 8 ^ t ^ h ^ z;
+	w[1] += row.kind + row.low + row.high + row.sum + row.sign + kept; w[2] -= other.sum + far;
+	emit_value(a & 3, buf, 32);
+	return emit_value(1, w, 32);""",
+    """	w[0] ^= a ^ (u64)x << 40 ^ (u64)s << 8; w[1] ^= b + y + t; w[2] += row.sum + row.low + d;
+	return emit_value(a & 3, w, 24);""",
+    """	emit_value(0, buf, 8);
+	return (a ^ b << 7 ^ d << 14 ^ (u64)x << 21 ^ (u64)y << 28 ^ (u64)s << 35 ^ w[0] ^ row.high ^ t ^ h ^ z) % 65521;""",
+    """	w[1] = a + b + c + d + e + f + x + y + s + h + t + z + kept + far + row.sign + other.low;
+	return emit(2, buf + 4, 8, w, 16);""",
+)
+SIZES = ((1, 1), (1, 2), (2, 1), (2, 2), (3, 1), (3, 2), (4, 3), (7, 4))
+SMALL = (0, 1, 2, 3, 4, 5, 6, 7, 9, 12, 15, 40, 99, 200)
 NUMBERS = (0, 1, 2, 3, 5, 7, 8, 15, 16, 31, 48, 57, 64, 97, 122, 127, 128, 255, 256, 1000, 65535, 1 << 31, (1 << 32) - 1, 0x123456789ABC, (1 << 64) - 1)
 VARIABLES = ("a", "b", "c", "d", "e", "f", "x", "y", "s", "h", "t", "z", "row.sum", "row.low", "other.high", "row.sign")
 TYPES = ("u8", "u16", "u32", "int", "short", "long", "signed char", "u64")
-DEEPEST = 4
 
 
 class Maker:
     def __init__(self, seed, name):
         self.r, self.name, self.depth, self.count = random.Random(seed), name, 0, 0
+        self.length, self.deepest = self.r.choice(SIZES)
 
     def program(self):
         inline = self.r.choice(("__attribute__((noinline)) ", "inline ", ""))
-        return FUNCTIONS % {"name": self.name, "inline": inline} + BODY % {"name": self.name, "statements": self.statements(self.r.randrange(3, 8))}
+        return FUNCTIONS % {"name": self.name, "inline": inline} + BODY % {"name": self.name, "begin": self.r.choice(BEGINS), "statements": self.statements(self.length), "end": self.r.choice(ENDS)}
 
     # ---- expressions
 
@@ -61,7 +88,7 @@ class Maker:
 
     def expression(self, depth=0):
         r, e = self.r, lambda: self.expression(depth + 1)
-        match r.randrange(14 if depth < 3 else 4):
+        match r.randrange(18 if depth < 3 else 4):
             case 0 | 1 | 2:
                 return self.variable()
             case 3:
@@ -80,12 +107,46 @@ class Maker:
                 return f"({self.condition()} ? {e()} : {e()})"
             case 12:
                 return f"((int){e()} {r.choice('/%')} {r.choice((3, 7, -5, 16))})"
+            case 13:
+                return f"(u64)(u32)((u32){e()} {r.choice('+-*')} (u32){e()})"
+            case 14 | 15:
+                return self.narrow()
+            case 16:
+                return r.choice(("kept", "far", "(long)(short)far", "record_partition()"))
         return f"table[{e()} & 15]"
+
+    def narrow(self):
+        """A number of which a little is known, from its bits or from the operation."""
+        r, v = self.r, self.variable
+        match r.randrange(10):
+            case 0 | 1:
+                return f"({v()} & {r.choice((1, 3, 7, 15, 31, 63))})"
+            case 9:
+                return f"((int)({v()} & {r.choice((63, 15))}) {r.choice('/%')} {r.choice((7, 10, 3))})"
+            case 2:
+                return f"({v()} % {r.choice(('10', '7ULL', '100'))})"
+            case 3:
+                return f"(({r.choice(TYPES[:3])}){v()} >> {r.choice((1, 3, 5, 12))})"
+            case 4:
+                return f"((u64){v()} >> {r.choice((59, 61, 50))})"
+            case 5:
+                return f"(({r.choice(('short', 'signed char', 'int'))}){v()} >> {r.choice((1, 2, 4))})"
+            case 6:
+                return f"({self.narrow()} {r.choice('+-*|^')} {self.narrow()})"
+            case 7:
+                return f"({self.narrow()} - {r.choice(SMALL)})"
+        return f"({self.narrow()} << {r.choice((1, 2, 4))})"
 
     def condition(self):
         r, e = self.r, lambda: self.expression(2)
         sign = r.choice(("<", ">", "<=", ">=", "==", "!="))
-        match r.randrange(6):
+        match r.randrange(10):
+            case 6 | 7:
+                return f"{self.narrow()} {sign} {r.choice(SMALL)}"
+            case 8:
+                return f"({r.choice(('long', 'int', 'u64', 'u32'))}){self.narrow()} {sign} ({r.choice(('long', 'int', 'u64'))}){self.narrow()}"
+            case 9:
+                return f"(long){self.narrow()} {sign} {r.choice((-3, -1, 0, 2, 9))}"
             case 0:
                 return f"(long){e()} {sign} (long){e()}"
             case 1:
@@ -107,8 +168,9 @@ class Maker:
 
     def statement(self):
         r, self.depth = self.r, self.depth + 1
-        makers = [self.assignment, self.assignment, self.element, self.guarded_byte, self.field]
-        if self.depth <= DEEPEST:
+        makers = [self.assignment, self.assignment, self.element, self.guarded_byte, self.field, self.kept]
+        if self.depth <= self.deepest:
+            makers += [self.changed_places, self.local, self.tested, self.tested]
             makers += [self.choice, self.choice, self.counted, self.ended, self.pointed, self.backward, self.switch, self.called, self.copied, self.chosen, self.compared,
                        self.emitted, self.loaded]
         try:
@@ -123,6 +185,37 @@ class Maker:
         if self.r.random() < 0.5:
             return f"w[{self.expression(2)} & 3] = {self.expression(1)};"
         return f"buf[{self.expression(2)} & 31] = {self.expression(1)};"
+
+    def kept(self):
+        """Bytes of the stack that have an address elsewhere are read after a call, which the compiler takes to change them."""
+        r, v = self.r, self.variable()
+        call = r.choice(("emit_null(2);", "c += record_partition();", "load_key(w, 0, 8);", "emit_value(3, buf, 1);"))
+        at = r.randrange(24)
+        match r.randrange(5):
+            case 0:
+                return f"buf[{at}] = {self.expression(2)}; emit_value(7, buf, 4); {call} if (buf[{at}] < {r.choice(SMALL)}) {v} += buf[{at}] + 1;"
+            case 1:
+                return f"row.{r.choice(('kind', 'low', 'high', 'sign'))} = {self.expression(2)}; emit_value(7, &row, 8); {call} {v} += row.kind + row.low * 3 + row.high + row.sign;"
+            case 2:
+                return f"*(u32 *)(buf + {at & 28}) = {r.choice((0x01020304, 0xA0B0C0D0, 77))}; emit_value(7, buf, 4); {call} {v} += buf[{(at & 28) + r.randrange(4)}] + *(u16 *)(buf + {at & 30});"
+            case 3:
+                return f"kept = {self.expression(2)}; {call} {v} ^= kept + (kept >> 3);"
+        return f"far = {self.expression(2)}; {call} {v} ^= far; far += {self.variable()};"
+
+    def tested(self):
+        """What is known of a number decides a test on it."""
+        n, v = self.index("n"), self.variable()
+        kind = self.r.choice(("u64", "u32", "int", "long"))
+        return f"{{ {kind} {n} = {self.narrow()}; if ({n} {self.r.choice(('<', '>', '<=', '>=', '==', '!='))} {self.r.choice(SMALL)}) {v} += {n} + 1; else {v} ^= {n}; }}"
+
+    def changed_places(self):
+        """Variables go round in a loop."""
+        i, n, (p, q, o) = self.index(), self.index("n"), self.r.sample(("a", "b", "c", "d", "e", "f"), 3)
+        return f"for (u32 {i} = 0; {i} < (value_length & {self.r.choice((3, 7))}) + 1; {i}++) {{ u64 {n} = {p}; {p} = {q}; {q} = {o} + {i}; {o} = {n}; {self.statements(1)} }}"
+
+    def local(self):
+        """A function with bytes of its own, while bytes of the caller are used."""
+        return f"w[{self.r.randrange(4)}] += {self.name}_local({self.variable()}, {self.variable()} & 15) + buf[{self.r.randrange(3)}];"
 
     def field(self):
         return f"{self.r.choice(('row', 'other'))}.{self.r.choice(('kind', 'low', 'high', 'sum', 'sign'))} = {self.expression(1)};"
