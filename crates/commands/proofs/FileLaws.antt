@@ -12,7 +12,7 @@ use Rattle.batch.specs.{Batches.AreBatches, Streams.Open}
 use Rattle.batch_reader.specs.declared.reader.ReadFault.TheVariants as read
 use Rattle.batch_reader.specs.Readings.{Inlet, inlet, none_given}
 use Rattle.transform.specs.{declared.stream.StreamFault.StreamFault}
-use Rattle.transform.specs.Streams.{TransformsAll, is_broken}
+use Rattle.transform.specs.Streams.{TransformsAll, AreOf, is_broken}
 use Rattle.transform.specs.declared.stream.StreamFault.TheVariants as fault
 use Rattle.transform.specs.declared.flow.TransformFault.TheVariants as stop
 use Rattle.transform.specs.declared.outlet.OutletFault.TheVariants as outlet
@@ -316,11 +316,20 @@ count_of : (program : Program) (bytes : List ℕ) (fresh : List Outflow) (result
     (after : Inlet) (now : Flow) →
     TransformsAll program (inlet (Open []) (Some bytes) none_given) (flow 0 0 fresh none_counted) result after now →
     length now.outputs ≡ length fresh
-count_of program bytes fresh (Err (fault.Transform (stop.Output output why))) after now does = does.4.count
-count_of program bytes fresh ended after now does = does.4.outputs.count
+count_of program bytes fresh (Err (fault.Transform (stop.Output output why))) after now does = does.4.2.count
+count_of program bytes fresh (Err (fault.Transform stop.Memory)) after now does = does.4.2.outputs.count
+count_of program bytes fresh (Err (fault.Transform stop.Full)) after now does = does.4.outputs.count
+count_of program bytes fresh (Err (fault.Read why)) after now does = does.4.outputs.count
+count_of program bytes fresh (Ok done) after now does = does.4.outputs.count
 
 module _ (program : Program) (bytes : List ℕ) (fresh : List Outflow) (after : Inlet) (now : Flow)
     (law : AreRowsOfALog) (new : All IsFresh fresh) where
+  -- an output partition is full only where all batches that were given were pushed
+  broken_at_end : (batches : List Batch) (output : ℕ) → ((pushed : List Batch) × AreOf outlet.Full batches pushed
+      × Broken (flow 0 0 fresh none_counted) program pushed now.outputs output outlet.Full) →
+      Broken (flow 0 0 fresh none_counted) program batches now.outputs output outlet.Full
+  broken_at_end batches output (pushed, are, broken) = rw (are.all refl) at broken
+
   -- the files have what the writers had
   streamed : (files : ℕ → Option (List ℕ)) →
       ((q : ℕ) → q < length fresh → HasWritten (output_at now.outputs q) (files q)) →
@@ -341,8 +350,9 @@ module _ (program : Program) (bytes : List ℕ) (fresh : List Outflow) (after : 
       as_transformed (Err (fault.Transform stop.Full)) batches rest begin
       (omega (arith, top), batch, next.0, next.1)
       (λ q lt. finished program batches fresh now.outputs law new false all.outputs q (files q) lt (held q lt))
-  streamed files held (Err (fault.Transform (stop.Output output outlet.Full))) (batches, mid, gave, ends, broken) =
+  streamed files held (Err (fault.Transform (stop.Output output outlet.Full))) (batches, mid, gave, ends, cut) =
       let (rest, begin, left) = gave.begins bytes refl in
+      let broken = broken_at_end batches output cut in
       as_transformed (Err (fault.Transform (stop.Output output outlet.Full))) batches rest begin
       (overfills program batches fresh now.outputs law new output broken)
       (λ q lt. stopped program batches fresh now.outputs law new output broken q (files q) lt (held q lt))
@@ -380,18 +390,11 @@ module _ (program : Program) (bytes : List ℕ) (fresh : List Outflow) (after : 
         begin,
         finished program batches fresh now.outputs law new false all.outputs q file lt held,
       )
-  kept_rows (Err (fault.Transform stop.Memory)) keeps (batches, mid, gave, ends, all) q before file lt held =
-      let (rest, begin, left) = gave.begins bytes refl in
-      inr (
-        batches,
-        rest,
-        false,
-        begin,
-        finished program batches fresh now.outputs law new false all.outputs q file lt held,
-      )
-  kept_rows (Err (fault.Transform (stop.Output output outlet.Full))) keeps (batches, mid, gave, ends, broken) q before
+  kept_rows (Err (fault.Transform stop.Memory)) keeps does q before file lt held = absurd (cc keeps)
+  kept_rows (Err (fault.Transform (stop.Output output outlet.Full))) keeps (batches, mid, gave, ends, cut) q before
       file lt held =
       let (rest, begin, left) = gave.begins bytes refl in
+      let broken = broken_at_end batches output cut in
       inr (
         batches,
         rest,
@@ -411,7 +414,7 @@ failed_unless_kept (Err (fault.Transform (stop.Output output outlet.Memory))) is
 failed_unless_kept (Err (fault.Transform (stop.Output output outlet.Write))) is = refl
 failed_unless_kept (Err (fault.Transform (stop.Output output outlet.Full))) is = absurd (cc is)
 failed_unless_kept (Err (fault.Transform stop.Full)) is = absurd (cc is)
-failed_unless_kept (Err (fault.Transform stop.Memory)) is = absurd (cc is)
+failed_unless_kept (Err (fault.Transform stop.Memory)) is = refl
 failed_unless_kept (Err (fault.Read why)) is = absurd (cc is)
 failed_unless_kept (Ok done) is = absurd (cc is)
 

@@ -117,12 +117,12 @@ status_of (Err (fault.Transform (stop.Output output outlet.Full))) = Refused
 status_of (Err (fault.Transform (stop.Output output outlet.Memory))) = Failed
 status_of (Err (fault.Transform (stop.Output output outlet.Write))) = Failed
 
--- whether rows are kept: unless the writer of an output partition failed, or memory ran out for a batch of its rows
+-- whether rows are kept: unless the writer of an output partition failed, or memory ran out
 abbrev pub keeps_rows : Result (Unit {0}) StreamFault → Bool
 keeps_rows (Ok done) = true
 keeps_rows (Err (fault.Read why)) = true
 keeps_rows (Err (fault.Transform stop.Full)) = true
-keeps_rows (Err (fault.Transform stop.Memory)) = true
+keeps_rows (Err (fault.Transform stop.Memory)) = false
 keeps_rows (Err (fault.Transform (stop.Output output outlet.Full))) = true
 keeps_rows (Err (fault.Transform (stop.Output output outlet.Memory))) = false
 keeps_rows (Err (fault.Transform (stop.Output output outlet.Write))) = false

@@ -96,7 +96,7 @@ fn run<F: Files, R: Read, E: Write>(
 }
 
 /// Whether the rows of the batches before a fault are kept: unless the writer of an output partition failed, or memory
-/// ran out for a batch of its rows.
+/// ran out.
 fn keeps_rows(ended: Result<(), StreamFault>) -> bool
     ensures { result ≡ keeps_rows ended }
 {
@@ -104,6 +104,7 @@ fn keeps_rows(ended: Result<(), StreamFault>) -> bool
         Err(StreamFault::Transform(TransformFault::Output { fault, .. })) => {
             matches!(fault, OutletFault::Full)
         }
+        Err(StreamFault::Transform(TransformFault::Memory)) => false,
         _ => true,
     }
 }
