@@ -1,0 +1,2 @@
+pub mod DigitValues
+pub mod Searches
