@@ -1,2 +1,13 @@
 pub mod DigitValues
 pub mod Searches
+pub mod Quotes
+pub mod Appends
+pub mod LinesRead
+pub mod ConditionSteps
+pub mod ReadLimits
+pub mod WordsAgain
+pub mod TestsAgain
+pub mod ConditionsAgain
+pub mod ActionsAgain
+pub mod PlainRules
+pub mod RulesAgain

@@ -3,3 +3,7 @@ pub mod Lines
 pub mod Meaning
 pub mod Faults
 pub mod Scanning
+pub mod Reading
+pub mod Steps
+pub mod Limits
+pub mod Writing

@@ -2,6 +2,7 @@
 
 ghost use Rattle.std.specs.Prelude.{◌≡◌, length};
 ghost use Rattle.rules.specs.declared.fault.LineFault.TheVariants.{Memory};
+ghost use Rattle.rules.specs.declared.fault.RuleFault.TheVariants as rule_faults;
 ghost use Rattle.rules.specs.Faults as definitions;
 
 use std::alloc::{AllocError, AllocFailed};
@@ -63,6 +64,14 @@ impl RuleFault {
     }
 }
 
+impl<T: Drop> From<AllocFailed<T>> for RuleFault {
+    ghost from_gives = { λ _ e. e ≡ rule_faults.Memory };
+
+    fn from(_e: AllocFailed<T>) -> RuleFault {
+        RuleFault::Memory
+    }
+}
+
 /// What is wrong with a line, and how many bytes of it are left there.
 #[derive(Clone, Copy, Debug, PartialEq, Eq, Drop)]
 pub enum LineFault {
@@ -92,7 +101,7 @@ impl<T: Drop> From<AllocFailed<T>> for LineFault {
 }
 
 /// The place in a line at which so many of its bytes are left.
-fn spot_at(number: usize, line: &[u8], left: usize) -> Spot
+pub fn spot_at(number: usize, line: &[u8], left: usize) -> Spot
     ensures { result ≡ definitions.spot_at number (length line.now) left }
 {
     Spot {

@@ -1,18 +1,30 @@
 //! Rules: what becomes of a record, said in lines of text.
+//!
+//! `parse` reads the rules of a text, and `write` prints them in their one form. `chosen` says which rule takes a
+//! record, and `holds` whether a condition holds of one.
 #![tactic(auto)]
 
 mod digits;
 mod fault;
+mod laws;
+mod level;
+mod limits;
 mod number;
 mod parts;
 mod quoted;
+mod reading;
 mod rule;
 mod scan;
 mod terms;
 mod truth;
+mod writing;
 
 pub use fault::{RuleFault, Spot};
+pub use laws::{rules_are_limited, rules_are_read_again};
+pub use limits::{MAX_RULES, MAX_STEPS};
+pub use reading::parse;
 pub use rule::{
     Action, AddedHeader, Comparison, Condition, Cut, Layout, Output, Part, Rule, Term, Test, Text,
 };
 pub use truth::{chosen, holds};
+pub use writing::write;

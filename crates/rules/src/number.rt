@@ -1,6 +1,6 @@
 //! Numbers of a line.
 
-ghost use Rattle.std.specs.Prelude.{◌≡◌};
+ghost use Rattle.std.specs.Prelude.{◌≡◌, ◌≤◌, IfOk};
 ghost use Rattle.wire_spec.specs.Memory.{AnswersAs};
 ghost use Rattle.rules.specs.declared.fault.LineFault.TheVariants as faults;
 ghost use Rattle.rules.specs.Scanning as definitions;
@@ -48,7 +48,8 @@ pub fn number_at(text: &[u8]) -> Result<(u64, &[u8]), LineFault>
 /// The number at the front, which must be from `low` to `high`, and what follows it.
 #[tactic(auto, unfolding(crate::specs::Scanning::number_in))]
 pub fn number_in(text: &[u8], low: u64, high: u64) -> Result<(u64, &[u8]), LineFault>
-    ensures { AnswersAs faults.Memory (λ x. (x.0, x.1.now)) result (definitions.number_in low high text.now) }
+    ensures answer { AnswersAs faults.Memory (λ x. (x.0, x.1.now)) result (definitions.number_in low high text.now) }
+    ensures within { IfOk result (λ x. x.0 ≤ high) }
 {
     let (number, rest) = number_at(text)?;
     if low <= number && number <= high {
@@ -56,4 +57,12 @@ pub fn number_in(text: &[u8], low: u64, high: u64) -> Result<(u64, &[u8]), LineF
     } else {
         Err(LineFault::Number(skipped(text).len()))
     }
+}
+
+/// The same of 32 bits.
+pub fn small_in(text: &[u8], low: u32, high: u32) -> Result<(u32, &[u8]), LineFault>
+    ensures { AnswersAs faults.Memory (λ x. (x.0, x.1.now)) result (definitions.number_in low high text.now) }
+{
+    let (number, rest) = number_in(text, u64::from(low), u64::from(high))?;
+    Ok((number as u32, rest))
 }

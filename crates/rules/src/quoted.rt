@@ -76,12 +76,7 @@ fn after_quote(text: &[u8]) -> Option<&[u8]>
 }
 
 /// The bytes up to the quote, fewer than `room`; `left` bytes of the line are left at the quote before them.
-fn quoted(
-    alloc: Global,
-    room: usize,
-    left: usize,
-    text: &[u8],
-) -> Result<(Text, &[u8]), LineFault>
+fn quoted(alloc: Global, room: usize, left: usize, text: &[u8]) -> Result<(Text, &[u8]), LineFault>
     ensures { AnswersAs faults.Memory (λ x. (x.0, x.1.now)) result (definitions.quoted room left text.now) }
 {
     let mut bytes = Vec::new(alloc);
