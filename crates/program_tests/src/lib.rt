@@ -1,7 +1,7 @@
 //! Tests of programs by public calls. In `texts` those of their texts and images, of explanations and of a script's
 //! lines, in `verifier` those of the verifier, in `machines` those of programs on the interpreter and on the plain
 //! machine, and in `damage` those of images that are damaged and of memory that is refused. The others are of
-//! arithmetic, images, program files and runs on many records.
+//! arithmetic, images, program files, rules and runs on many records.
 #![tactic(auto)]
 
 #[cfg(test)]
@@ -28,6 +28,8 @@ mod parts;
 mod program_files;
 #[cfg(test)]
 mod programs;
+#[cfg(test)]
+mod rule_texts;
 #[cfg(test)]
 mod tables;
 #[cfg(test)]
