@@ -1,6 +1,6 @@
 -- Actions are read again as they were printed.
-use Rattle.std.proofs.Common.{◌≡◌, ℕ, ◌+◌, ◌-◌, ◌^◌, ◌<◌, ◌≤◌, Bool, true, false, List, [], ◌∷◌, ◌++◌, Option, Some, None}
-use Rattle.std.proofs.Common.{Result, Ok, Err, refl, sym, ap, ◌∙◌, arith, append_assoc, decimal, nat_eq, nat_lt, cond}
+use Rattle.std.proofs.Common.{◌≡◌, ℕ, ◌-◌, ◌^◌, ◌<◌, true, false, List, ◌∷◌, ◌++◌, Option, Some, None}
+use Rattle.std.proofs.Common.{Ok, refl, ap, ◌∙◌, arith, append_assoc, decimal}
 use Rattle.std.specs.Prelude.{codes}
 use Rattle.rules.specs.declared.{rule.Part.Part, rule.Cut.Cut, rule.Output.Output, rule.AddedHeader.AddedHeader}
 use Rattle.rules.specs.declared.rule.Action.{Action}
@@ -9,13 +9,13 @@ use Rattle.rules.specs.declared.rule.Output.TheVariants as output
 use Rattle.rules.specs.declared.rule.Action.TheVariants as action
 use Rattle.rules.specs.declared.limits.TheConstants.{MAX_PLACE, MAX_OUTPUT, MAX_HASHED}
 use Rattle.rules.specs.Limits.{IsText, IsFrom, FitsPart, FitsEnd, FitsCut, FitsOutput, FitsAdded, FitsAction}
-use Rattle.rules.specs.Scanning.{Read, ◌>>=◌, on_there, unexpected, word_at, behind_word, after_word, after_sign}
+use Rattle.rules.specs.Scanning.{Read, word_at, behind_word, after_word, after_sign}
 use Rattle.rules.specs.Scanning.{word_expected, sign_expected, is_number, number_in, text_at}
-use Rattle.rules.specs.Reading.{names_part, part_at, argument_at, drop_at, tombstone_at, hashed_at, from_at, to_at}
+use Rattle.rules.specs.Reading.{names_part, part_at, drop_at, tombstone_at, hashed_at, from_at, to_at}
 use Rattle.rules.specs.Reading.{cut_end_at, cut_at, changed_at, form_at, output_at, header_at, added_at, outputs_at}
 use Rattle.rules.specs.Reading.{action_at}
-use Rattle.rules.specs.Writing.{quoted_text, part_text, argument_text, from_text, to_text, record_text, hashed_text}
-use Rattle.rules.specs.Writing.{cut_text, changed_text, output_text, added_text, action_text}
+use Rattle.rules.specs.Writing.{quoted_text, part_text, argument_text, from_text, to_text}
+use Rattle.rules.specs.Writing.{output_text, added_text, action_text}
 use Rattle.rules.proofs.WordsAgain.{is_apart, word_space, number_word, number_is_no_word, in_again, in_space, no_sign_of_number}
 use Rattle.rules.proofs.WordsAgain.{named_space, text_again, text_space}
 use Rattle.rules.proofs.Appends.{assoc3, assoc4, assoc5, assoc6}

@@ -1,11 +1,11 @@
 -- One step of reading a condition.
-use Rattle.std.proofs.Common.{◌≡◌, ℕ, suc, ◌-◌, ◌≤◌, List, length, Option, Some, None, Ok, Err, refl, sym, ap, ◌∙◌, arith}
+use Rattle.std.proofs.Common.{◌≡◌, ℕ, suc, ◌-◌, ◌≤◌, List, length, Some, None, Ok, Err, refl, ap, arith}
 use Rattle.std.specs.Prelude.{codes}
 use Rattle.rules.specs.declared.{level.Level.Level, fault.LineFault.LineFault}
 use Rattle.rules.specs.declared.level.Level.TheVariants as level
 use Rattle.rules.specs.declared.fault.LineFault.TheVariants as fault
 use Rattle.rules.specs.Lines.{Formula, Both, Either}
-use Rattle.rules.specs.Scanning.{◌>>=◌, on_there, skipped, after_word, after_sign}
+use Rattle.rules.specs.Scanning.{◌>>=◌, skipped, after_word, after_sign}
 use Rattle.rules.specs.Reading.{joined, enclosed_at, single_at, negated_at, one_at, condition_at}
 
 pub is_deep : (steps : ℕ) (what : Level) (text rest : List ℕ) → steps ≡ 0 → rest ≡ skipped text →

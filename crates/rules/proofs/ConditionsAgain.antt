@@ -1,17 +1,17 @@
 -- Conditions are read again as they were printed.
-use Rattle.std.proofs.Common.{◌≡◌, ℕ, zero, suc, ◌+◌, ◌-◌, ◌<◌, ◌≤◌, Bool, true, false, List, [], ◌∷◌, ◌++◌, Option, Some}
-use Rattle.std.proofs.Common.{None, Result, Ok, Err, refl, sym, ap, ◌∙◌, arith, append_assoc}
+use Rattle.std.proofs.Common.{◌≡◌, ℕ, zero, suc, ◌≤◌, true, List, [], ◌∷◌, ◌++◌, Some}
+use Rattle.std.proofs.Common.{None, Ok, refl, sym, ap, ◌∙◌, arith}
 use Rattle.std.specs.Prelude.{codes}
 use Rattle.rules.specs.declared.{level.Level.Level, rule.Test.Test}
 use Rattle.rules.specs.declared.level.Level.TheVariants as level
 use Rattle.rules.specs.Lines.{Formula, Single, Negated, Both, Either}
-use Rattle.rules.specs.Limits.{IsText, FitsTest, HasFitting, steps, FitsSteps}
-use Rattle.rules.specs.Scanning.{Read, ◌>>=◌, on_there, word_at, behind_word, after_word, after_sign, sign_expected}
-use Rattle.rules.specs.Reading.{test_at, joined, enclosed_at, single_at, negated_at, one_at, condition_at}
+use Rattle.rules.specs.Limits.{IsText, FitsTest, steps, FitsSteps}
+use Rattle.rules.specs.Scanning.{word_at, behind_word, after_word, after_sign}
+use Rattle.rules.specs.Reading.{condition_at}
 use Rattle.rules.specs.Writing.{test_text, condition_text}
 use Rattle.rules.proofs.Appends.{assoc4}
 use Rattle.rules.proofs.WordsAgain.{is_apart, word_space}
-use Rattle.rules.proofs.TestsAgain.{test_again, test_space, BeginsTest, test_begins, closed}
+use Rattle.rules.proofs.TestsAgain.{test_again, test_space, test_begins, closed}
 
 -- what follows a condition ends it
 abbrev pub Ends : Level → List ℕ → Type 0

@@ -11,7 +11,7 @@ use Rattle.rules.specs.declared.fault.RuleFault.TheVariants as rule_fault
 use Rattle.rules.specs.declared.limits.TheConstants.{MAX_RULES}
 use Rattle.rules.specs.{Faults.at_line, Faults.spot_at, Lines.Line, Lines.line_of, Lines.lines_of, Scanning.skipped}
 use Rattle.rules.specs.{Steps.IsAdded, Steps.IsRefused}
-use Rattle.rules.specs.Reading.{is_line_feed, rule_in, before_rules, with_line, rules_in, rules_of}
+use Rattle.rules.specs.Reading.{is_line_feed, rule_in, before_rules, rules_in}
 
 -- a text without such a byte is one piece
 split_whole : (p : ℕ → Bool) (xs : List ℕ) → length xs ≤ position_or_len p xs → slice_split p xs ≡ xs ∷ []

@@ -1,10 +1,10 @@
 -- What is printed of a rule has no line feed.
-use Rattle.std.proofs.Common.{◌≡◌, ℕ, ◌+◌, ◌-◌, ◌/◌, ◌%◌, ◌^◌, ◌<◌, ◌≤◌, Bool, true, false, not, ◌&&◌, ◌||◌, ◌==◌, nat_le}
-use Rattle.std.proofs.Common.{nat_lt, List, [], ◌∷◌, ◌++◌, Option, Some, None, refl, sym, ap, subst, ◌∙◌, arith, decimal}
+use Rattle.std.proofs.Common.{◌≡◌, ℕ, ◌/◌, ◌%◌, ◌^◌, ◌<◌, Bool, true, false, not, ◌&&◌, ◌||◌, ◌==◌, nat_le}
+use Rattle.std.proofs.Common.{nat_lt, List, [], ◌∷◌, ◌++◌, Option, Some, None, refl, ap, subst, ◌∙◌, arith, decimal}
 use Rattle.std.specs.Prelude.{codes}
 use Rattle.std.specs.{List.list_all, List.flat_map, List.AllByRecursion, Str.Parse.AllDigits, Char.digit_value}
 use Rattle.std.specs.{Char.digit_char}
-use Rattle.std.proofs.lemmas.Bool.{and_parts, and_from, or_parts, ne_eqb, eqb-false}
+use Rattle.std.proofs.lemmas.Bool.{and_from, ne_eqb}
 use Rattle.std.proofs.lemmas.List.Folds.{list_all-append}
 use Rattle.std.proofs.{lemmas.Fmt.decimal_is_IsNumeral, lemmas.Str.Parse.digit_from_value, lemmas.Str.digit_value-digit_char}
 use Rattle.rules.specs.declared.{rule.Part.Part, rule.Layout.Layout, rule.Term.Term, rule.Comparison.Comparison}
@@ -19,10 +19,10 @@ use Rattle.rules.specs.declared.rule.Output.TheVariants as output
 use Rattle.rules.specs.declared.rule.Action.TheVariants as action
 use Rattle.rules.specs.declared.level.Level.TheVariants as level
 use Rattle.rules.specs.Lines.{Formula, Single, Negated, Both, Either, Line}
-use Rattle.rules.specs.Limits.{IsText, IsFrom, FitsPart, FitsTerm, FitsTest, HasFitting, FitsEnd, FitsOutput, FitsAdded}
+use Rattle.rules.specs.Limits.{IsText, FitsPart, FitsTerm, FitsTest, HasFitting, FitsEnd, FitsOutput, FitsAdded}
 use Rattle.rules.specs.Limits.{FitsAction, FitsWhen, FitsLine}
 use Rattle.rules.specs.Reading.{is_line_feed}
-use Rattle.rules.specs.Writing.{byte_text, quoted_text, part_text, layout_word, argument_text, next_text, term_text}
+use Rattle.rules.specs.Writing.{byte_text, quoted_text, part_text, layout_word, next_text, term_text}
 use Rattle.rules.specs.Writing.{comparison_text, test_text, encloses_or, encloses_and, open_text, close_text}
 use Rattle.rules.specs.Writing.{condition_text, from_text, to_text, record_text, output_text, added_text, action_text}
 use Rattle.rules.specs.Writing.{when_text, rule_text}

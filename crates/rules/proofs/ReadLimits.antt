@@ -1,27 +1,26 @@
 -- What is read of a text is within the limits.
-use Rattle.std.proofs.Common.{◌≡◌, ℕ, zero, suc, ◌+◌, ◌-◌, ◌^◌, ◌<◌, ◌≤◌, Bool, true, false, ◌&&◌, nat_le, nat_lt, cond, max}
-use Rattle.std.proofs.Common.{List, [], ◌∷◌, ◌++◌, length, Option, Some, None, Result, Ok, Err, IfOk, refl, sym, ap, ◌∙◌, arith}
+use Rattle.std.proofs.Common.{◌≡◌, ℕ, zero, suc, ◌+◌, ◌-◌, ◌^◌, ◌<◌, ◌≤◌, Bool, true, false, ◌&&◌, nat_le, nat_lt, cond}
+use Rattle.std.proofs.Common.{List, [], ◌∷◌, length, Option, Some, None, Result, Ok, Err, IfOk, refl, arith}
 use Rattle.std.specs.Prelude.{⊤, codes}
 use Rattle.std.specs.{Option.ok_or, List.AllByRecursion, List.slice_split}
 use Rattle.std.proofs.lemmas.Bool.{and_parts, leb-true, ltb-true}
-use Rattle.rules.specs.declared.{rule.Part.Part, rule.Layout.Layout, rule.Term.Term, rule.Comparison.Comparison}
-use Rattle.rules.specs.declared.{rule.Test.Test, rule.Cut.Cut, rule.Output.Output, rule.AddedHeader.AddedHeader}
-use Rattle.rules.specs.declared.{rule.Action.Action, level.Level.Level, fault.LineFault.LineFault}
+use Rattle.rules.specs.declared.{rule.Part.Part, rule.Layout.Layout}
+use Rattle.rules.specs.declared.{level.Level.Level, fault.LineFault.LineFault}
 use Rattle.rules.specs.declared.fault.RuleFault.{RuleFault}
 use Rattle.rules.specs.declared.limits.TheConstants.{MAX_RULES, MAX_STEPS, MAX_PLACE, MAX_OUTPUT}
 use Rattle.rules.specs.declared.fault.LineFault.TheVariants as fault
 use Rattle.rules.specs.declared.level.Level.TheVariants as level
 use Rattle.rules.specs.Lines.{Formula, Single, Negated, Both, Either, Line}
-use Rattle.rules.specs.Scanning.{Read, ◌>>=◌, on_there, after_quote, char_at, onto_text, skipped, is_end, unexpected}
+use Rattle.rules.specs.Scanning.{Read, ◌>>=◌, on_there, after_quote, char_at, onto_text, skipped, is_end}
 use Rattle.rules.specs.Scanning.{word_at, after_word, after_sign, word_expected, sign_expected, is_number, number_at}
 use Rattle.rules.specs.Scanning.{number_in, quoted, text_at}
 use Rattle.rules.specs.Reading.{names_part, part_at, argument_at, place_at, count_at, length_at, number_term_at}
 use Rattle.rules.specs.Reading.{decimal_at, layout_named, layout_term_at, term_at, comparison_at, comparing_at, is_at}
-use Rattle.rules.specs.Reading.{equal_at, begins_at, has_at, asked_at, test_at, joined, enclosed_at, single_at, negated_at}
-use Rattle.rules.specs.Reading.{one_at, condition_at, drop_at, tombstone_at, hashed_at, from_at, to_at, cut_end_at, cut_at}
+use Rattle.rules.specs.Reading.{equal_at, begins_at, has_at, asked_at, test_at}
+use Rattle.rules.specs.Reading.{condition_at, drop_at, tombstone_at, hashed_at, from_at, to_at, cut_end_at, cut_at}
 use Rattle.rules.specs.Reading.{changed_at, form_at, output_at, header_at, added_at, outputs_at, action_at, when_at}
 use Rattle.rules.specs.Reading.{rule_of, some_rule, rule_in, is_line_feed, before_rules, with_line, rules_in, rules_of}
-use Rattle.rules.specs.Limits.{FitsText, FitsPart, IsFrom, FitsTerm, FitsTest, HasFitting, steps, FitsSteps, FitsWhen}
+use Rattle.rules.specs.Limits.{FitsText, FitsPart, IsFrom, FitsTerm, FitsTest, steps, FitsSteps, FitsWhen}
 use Rattle.rules.specs.Limits.{FitsCut, FitsOutput, FitsAdded, FitsAction, FitsLine, AreRules}
 
 -- ---- what holds of a result

@@ -1,22 +1,19 @@
 -- Rules are read again as they were printed.
-use Rattle.std.proofs.Common.{◌≡◌, ℕ, suc, ◌+◌, ◌<◌, ◌≤◌, Bool, true, false, not, ◌==◌, cond, List, [], ◌∷◌, ◌++◌, length, nat_lt}
-use Rattle.std.proofs.Common.{Option, Some, None, Result, Ok, Err, refl, sym, ap, ◌∙◌, arith, append_assoc}
+use Rattle.std.proofs.Common.{◌≡◌, ℕ, ◌+◌, ◌≤◌, Bool, true, false, not, ◌==◌, List, [], ◌∷◌, ◌++◌, length}
+use Rattle.std.proofs.Common.{Option, Some, None, Ok, refl, sym, ap, ◌∙◌, arith, append_assoc}
 use Rattle.std.specs.Prelude.{codes}
-use Rattle.std.specs.{List.list_all, List.All, List.slice_split, List.AllByRecursion}
+use Rattle.std.specs.{List.list_all, List.slice_split, List.AllByRecursion}
 use Rattle.std.proofs.lemmas.Bool.{and_parts, lt-ltb}
-use Rattle.std.proofs.lemmas.List.Splits.{slice_split_at}
 use Rattle.std.proofs.lemmas.List.{append-nil}
 use Rattle.rules.specs.declared.rule.Action.{Action}
-use Rattle.rules.specs.declared.rule.Output.{Output}
 use Rattle.rules.specs.declared.rule.Output.TheVariants as output
 use Rattle.rules.specs.declared.rule.Action.TheVariants as action
 use Rattle.rules.specs.declared.level.Level.TheVariants as level
-use Rattle.rules.specs.declared.{fault.LineFault.LineFault, fault.RuleFault.RuleFault}
 use Rattle.rules.specs.declared.limits.TheConstants.{MAX_RULES, MAX_STEPS}
 use Rattle.rules.specs.Lines.{Formula, Line}
 use Rattle.rules.specs.Limits.{IsText, FitsWhen, FitsLine, AreRules}
-use Rattle.rules.specs.Scanning.{◌>>=◌, skipped, is_end, word_at, behind_word, after_word}
-use Rattle.rules.specs.Reading.{names_part, when_at, rule_of, some_rule, rule_in, is_line_feed, before_rules, with_line}
+use Rattle.rules.specs.Scanning.{skipped, is_end, word_at, behind_word, after_word}
+use Rattle.rules.specs.Reading.{when_at, rule_of, rule_in, is_line_feed}
 use Rattle.rules.specs.Reading.{rules_in, rules_of, condition_at}
 use Rattle.rules.specs.Writing.{output_text, action_text, when_text, rule_text, condition_text, text_of}
 use Rattle.rules.proofs.{ConditionsAgain.Ends, ConditionsAgain.space, ConditionsAgain.condition_again}

@@ -1,5 +1,5 @@
 -- Searches for a text in bytes.
-use Rattle.std.proofs.Common.{◌≡◌, ℕ, ◌+◌, ◌<◌, ◌||◌, Bool, false, List, ◌∷◌, length, get_or, drop, nat_eq, refl, add-one, ◌∙◌, ap}
+use Rattle.std.proofs.Common.{◌≡◌, ℕ, ◌+◌, ◌<◌, ◌||◌, Bool, false, List, ◌∷◌, length, get_or, drop, nat_eq, add-one, ◌∙◌, ap}
 use Rattle.std.proofs.Math.Seq.{drop-cons}
 use Rattle.std.specs.List.{starts_with}
 use Rattle.rules.specs.Meaning.{occurs}

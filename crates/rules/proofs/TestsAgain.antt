@@ -1,6 +1,6 @@
 -- Parts, terms and tests are read again as they were printed.
-use Rattle.std.proofs.Common.{◌≡◌, ℕ, ◌+◌, ◌-◌, ◌^◌, ◌<◌, ◌≤◌, Bool, true, false, List, [], ◌∷◌, ◌++◌, Option, Some, None}
-use Rattle.std.proofs.Common.{Result, Ok, Err, refl, sym, ap, ◌∙◌, arith, append_assoc, decimal}
+use Rattle.std.proofs.Common.{◌≡◌, ℕ, ◌-◌, ◌^◌, true, false, List, ◌∷◌, ◌++◌, Option, Some, None}
+use Rattle.std.proofs.Common.{Ok, refl, ap, ◌∙◌, arith, append_assoc, decimal}
 use Rattle.std.specs.Prelude.{codes}
 use Rattle.rules.specs.declared.{rule.Part.Part, rule.Layout.Layout, rule.Term.Term, rule.Comparison.Comparison}
 use Rattle.rules.specs.declared.rule.Test.{Test}
@@ -11,7 +11,7 @@ use Rattle.rules.specs.declared.rule.Comparison.TheVariants as comparison
 use Rattle.rules.specs.declared.rule.Test.TheVariants as test
 use Rattle.rules.specs.declared.limits.TheConstants.{MAX_PLACE, MAX_DIGITS}
 use Rattle.rules.specs.Limits.{IsText, IsFrom, FitsPart, FitsTerm, FitsTest}
-use Rattle.rules.specs.Scanning.{Read, ◌>>=◌, on_there, unexpected, word_at, behind_word, after_word, after_sign}
+use Rattle.rules.specs.Scanning.{Read, unexpected, word_at, behind_word, after_word, after_sign}
 use Rattle.rules.specs.Scanning.{word_expected, sign_expected, number_in, text_at}
 use Rattle.rules.specs.Reading.{names_part, part_at, argument_at, place_at, count_at, length_at, number_term_at}
 use Rattle.rules.specs.Reading.{decimal_at, layout_named, layout_term_at, term_at, comparison_at, comparing_at, is_at}

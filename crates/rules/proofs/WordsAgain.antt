@@ -1,20 +1,19 @@
 -- Words, numbers and texts are read again as they were printed.
-use Rattle.std.proofs.Common.{◌≡◌, ℕ, zero, suc, ◌+◌, ◌-◌, ◌*◌, ◌/◌, ◌%◌, ◌^◌, ◌<◌, ◌≤◌, Bool, true, false, not, ◌&&◌, ◌||◌}
-use Rattle.std.proofs.Common.{◌==◌, nat_eq, nat_le, nat_lt, cond, List, [], ◌∷◌, ◌++◌, length, take, drop, Option, Some, None}
-use Rattle.std.proofs.Common.{Result, Ok, Err, refl, sym, ap, subst, ◌∙◌, arith, append_assoc, decimal}
+use Rattle.std.proofs.Common.{◌≡◌, ℕ, zero, suc, ◌+◌, ◌*◌, ◌/◌, ◌%◌, ◌^◌, ◌<◌, Bool, true, false, not, ◌&&◌, ◌||◌}
+use Rattle.std.proofs.Common.{◌==◌, nat_eq, nat_le, nat_lt, List, [], ◌∷◌, ◌++◌, length, drop, Option, Some, None}
+use Rattle.std.proofs.Common.{Ok, refl, sym, ap, subst, ◌∙◌, arith, append_assoc, decimal}
 use Rattle.std.specs.Prelude.{codes}
 use Rattle.std.specs.{List.list_all, List.flat_map, List.position_or_len, List.starts_with, List.AllByRecursion}
 use Rattle.std.specs.{Str.bytes_eq, Str.Parse.AllDigits, Str.Parse.digits_value, Char.is_digit, Char.digit_value}
-use Rattle.std.specs.{Char.digit_char, Int.IsInRange}
-use Rattle.std.proofs.lemmas.Bool.{and_parts, and_from, and_right, or_parts, eqb-true, eqb-false, ne_eqb, lt-ltb, le-leb}
+use Rattle.std.specs.{Char.digit_char}
+use Rattle.std.proofs.lemmas.Bool.{and_parts, and_from, and_right, or_parts, eqb-true, ne_eqb, lt-ltb, le-leb}
 use Rattle.std.proofs.lemmas.List.{take_at, drop_at}
 use Rattle.std.proofs.{lemmas.Fmt.decimal_is_IsNumeral, lemmas.Str.Parse.digit_from_value, lemmas.Str.digit_value-digit_char}
-use Rattle.rules.specs.declared.fault.LineFault.{LineFault}
 use Rattle.rules.specs.Numbers.{digits_number}
 use Rattle.rules.specs.Limits.{IsFrom, IsText}
-use Rattle.rules.specs.Scanning.{Read, ◌>>=◌, on_there, is_blank, skipped, is_word_byte, unexpected, word_at, behind_word}
+use Rattle.rules.specs.Scanning.{skipped, is_word_byte, unexpected, word_at, behind_word}
 use Rattle.rules.specs.Scanning.{after_word, after_sign, word_expected, is_number, number_of, number_before, number_at, number_in}
-use Rattle.rules.specs.Scanning.{after_quote, char_at, onto_text, quoted, text_at}
+use Rattle.rules.specs.Scanning.{after_quote, char_at, quoted, text_at}
 use Rattle.rules.specs.Writing.{byte_text, quoted_text}
 
 -- ---- words

@@ -1,4 +1,4 @@
-use Rattle.std.proofs.Common.{◌≡◌, ◌∙◌, ap, sym, arith, take}
+use Rattle.std.proofs.Common.{◌∙◌, ap, sym, arith}
 use Rattle.std.proofs.lemmas.List.{length-take, take_all}
 use Rattle.rules.specs.Meaning.{occurs}
 use Rattle.rules.proofs.truth.has.Goals as goal
