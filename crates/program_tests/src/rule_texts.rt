@@ -88,57 +88,57 @@ fn rules_have_one_printed_form(rt: HostRuntime) {
 
 /// Texts, and their fault with its line and its column.
 static REFUSED: &str = "\
-keep | R1 Word 1 1
-Drop | R1 Word 1 1
-drops | R1 Word 1 1
-drop;  output | R7 End 2 9
-drop # ;output # | R7 End 2 8
-drop when | R7 End 1 10
-drop if | R1 Word 1 6
-drop 1 2 | R1 Word 1 8
-drop 0 | R2 Number 1 6
-drop 18446744073709551616 | R2 Number 1 6
-drop 1x | R2 Number 1 6
-drop 0x | R2 Number 1 6
-drop 0xfg | R2 Number 1 6
-output 64 | R2 Number 1 8
-tombstone 64 | R2 Number 1 11
-tombstone value | R1 Word 1 11
-output hash(key) % 0 | R2 Number 1 20
-output hash(key) % 65 | R2 Number 1 20
-output hash(key) 4 | R1 Word 1 18
-output hash key | R1 Word 1 13
-output 1 value | R7 End 1 15
-output 1 value[2..1] | R2 Number 1 19
-output 1 value[1048577..] | R2 Number 1 16
-output 1 value[1. .2] | R1 Word 1 17
-output 1 with key[0..1] = \"a\" | R1 Word 1 15
-output 1 with value[0..] = \"a\" | R1 Word 1 24
-output 1 and key = \"a\" | R1 Word 1 14
-drop when value | R7 End 1 16
-drop when value is | R7 End 1 19
-drop when value is no | R1 Word 1 20
-drop when value = 7 | R1 Word 1 19
-drop when value == \"a\" | R1 Word 1 18
-drop when value != \"a\" | R1 Word 1 17
-drop when header = \"a\" | R1 Word 1 18
-drop when length value > 1 | R1 Word 1 18
-drop when byte(value) = 1 | R1 Word 1 21
-drop when byte(value, 1048577) = 1 | R2 Number 1 23
-drop when decimal(key, 0, 0) = 1 | R2 Number 1 27
-drop when decimal(key, 0, 19) = 1 | R2 Number 1 27
-drop when offset | R7 End 1 17
-drop when offset = \"a\" | R1 Word 1 20
-drop when offset => 1 | R1 Word 1 19
-drop when (offset = 1 | R7 End 1 22
-drop when offset = 1) | R1 Word 1 21
-drop when offset = 1 and | R7 End 1 25
-drop when not | R7 End 1 14
-drop when offset = 1 offset = 2 | R1 Word 1 22
-drop when key = \"a | R3 Text 1 17
-drop when key = \"\\a\" | R3 Text 1 17
-drop when key = \"\\x4\" | R3 Text 1 17
-drop when key = \"a;\" | R3 Text 1 17
+keep | E1 Word 1 1
+Drop | E1 Word 1 1
+drops | E1 Word 1 1
+drop;  output | E7 End 2 9
+drop # ;output # | E7 End 2 8
+drop when | E7 End 1 10
+drop if | E1 Word 1 6
+drop 1 2 | E1 Word 1 8
+drop 0 | E2 Number 1 6
+drop 18446744073709551616 | E2 Number 1 6
+drop 1x | E2 Number 1 6
+drop 0x | E2 Number 1 6
+drop 0xfg | E2 Number 1 6
+output 64 | E2 Number 1 8
+tombstone 64 | E2 Number 1 11
+tombstone value | E1 Word 1 11
+output hash(key) % 0 | E2 Number 1 20
+output hash(key) % 65 | E2 Number 1 20
+output hash(key) 4 | E1 Word 1 18
+output hash key | E1 Word 1 13
+output 1 value | E7 End 1 15
+output 1 value[2..1] | E2 Number 1 19
+output 1 value[1048577..] | E2 Number 1 16
+output 1 value[1. .2] | E1 Word 1 17
+output 1 with key[0..1] = \"a\" | E1 Word 1 15
+output 1 with value[0..] = \"a\" | E1 Word 1 24
+output 1 and key = \"a\" | E1 Word 1 14
+drop when value | E7 End 1 16
+drop when value is | E7 End 1 19
+drop when value is no | E1 Word 1 20
+drop when value = 7 | E1 Word 1 19
+drop when value == \"a\" | E1 Word 1 18
+drop when value != \"a\" | E1 Word 1 17
+drop when header = \"a\" | E1 Word 1 18
+drop when length value > 1 | E1 Word 1 18
+drop when byte(value) = 1 | E1 Word 1 21
+drop when byte(value, 1048577) = 1 | E2 Number 1 23
+drop when decimal(key, 0, 0) = 1 | E2 Number 1 27
+drop when decimal(key, 0, 19) = 1 | E2 Number 1 27
+drop when offset | E7 End 1 17
+drop when offset = \"a\" | E1 Word 1 20
+drop when offset => 1 | E1 Word 1 19
+drop when (offset = 1 | E7 End 1 22
+drop when offset = 1) | E1 Word 1 21
+drop when offset = 1 and | E7 End 1 25
+drop when not | E7 End 1 14
+drop when offset = 1 offset = 2 | E1 Word 1 22
+drop when key = \"a | E3 Text 1 17
+drop when key = \"\\a\" | E3 Text 1 17
+drop when key = \"\\x4\" | E3 Text 1 17
+drop when key = \"a;\" | E3 Text 1 17
 ";
 
 /// The name of a fault, and its line and column.
@@ -184,17 +184,17 @@ fn repeated(alloc: Global, first: &str, piece: &str, count: u32, last: &str) -> 
 /// none.
 static LIMITS: &str = "\
 drop when key = \"/a/255/\" |
-drop when key = \"/a/256/\" | R4 Long 1 17
+drop when key = \"/a/256/\" | E4 Long 1 17
 /drop;/1024/ |
-/drop;/1025/ | R6 Many 1025 1
-;/drop;/1025/drop when | R6 Many 1026 1
+/drop;/1025/ | E6 Many 1025 1
+;/drop;/1025/drop when | E6 Many 1026 1
 drop when /not /97/offset = 1 |
-drop when /not /98/offset = 1 | R5 Deep 1 403
+drop when /not /98/offset = 1 | E5 Deep 1 403
 drop when offset = 1/ and offset = 1/97/ |
 drop when offset = 1/ or offset = 1/97/ |
-drop when offset = 1/ or offset = 1/98/ | R5 Deep 1 1383
-drop when /(/32/offset = 1 | R7 End 1 53
-drop when /(/33/offset = 1 | R5 Deep 1 44
+drop when offset = 1/ or offset = 1/98/ | E5 Deep 1 1383
+drop when /(/32/offset = 1 | E7 End 1 53
+drop when /(/33/offset = 1 | E5 Deep 1 44
 ";
 
 fn row_is_limited(alloc: Global, row: &str) -> Option<bool> {

@@ -21,28 +21,28 @@ pub struct Spot {
 #[derive(Clone, Copy, Debug, PartialEq, Eq, Drop, Error)]
 pub enum RuleFault {
     /// What stands there may not: a word, a sign, a number or a text.
-    #[error("R1 Word")]
+    #[error("E1 Word")]
     Word(Spot),
     /// A number is none of 64 bits, or out of its range.
-    #[error("R2 Number")]
+    #[error("E2 Number")]
     Number(Spot),
     /// A text has no quote at its end, or a backslash that nothing known follows.
-    #[error("R3 Text")]
+    #[error("E3 Text")]
     Text(Spot),
     /// A text has more than 255 bytes.
-    #[error("R4 Long")]
+    #[error("E4 Long")]
     Long(Spot),
     /// The condition needs more than `MAX_STEPS` steps here.
-    #[error("R5 Deep")]
+    #[error("E5 Deep")]
     Deep(Spot),
     /// The rule comes after `MAX_RULES` others.
-    #[error("R6 Many")]
+    #[error("E6 Many")]
     Many(Spot),
     /// The line ends where a rule goes on.
-    #[error("R7 End")]
+    #[error("E7 End")]
     End(Spot),
     /// Memory ran out.
-    #[error("R8 Memory")]
+    #[error("E8 Memory")]
     Memory,
 }
 
