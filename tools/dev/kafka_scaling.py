@@ -170,7 +170,7 @@ def rates(given):
                  "C, 1 thread": (lambda servers: words_of(given, servers),),
                  "C, 1 thread, without klog's calls": (lambda servers: words_of(without, servers),),
                  "C, 4 threads": (lambda servers: words_of(given, servers, 4), 4),
-                 "librdkafka alone": (lambda servers: [alone, servers, "g", "in", "out", "5000"], 1, False)}
+                 "librdkafka alone": (lambda servers: [alone, servers, "g", "in", "out", "10000"], 1, False)}
         best = {}
         for name, (words_for, *more) in [*forms.items()] * 2:
             turn = timed(words_for, 1, *more, mebibytes=given.mebibytes)
