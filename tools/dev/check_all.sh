@@ -95,7 +95,8 @@ check limits "" tools/dev/limits_once.py
 check klogc "clang" python3 -B -m unittest discover -s tools/klogc/tests -t tools
 check graphs "" tools/dev/graph_test.py --klog "$klog"
 check transforms "clang" tools/klogc/klogc table examples/c/transforms --klog "$klog"
-check meanings "clang" tools/klogc/tests/compare.py --programs 20
+check meanings "clang" tools/klogc/tests/compare.py --seed 1 --programs 75
+check damaged "clang" tools/klogc/tests/damaged.py --seed 1 --objects 200
 check scripts "" tools/dev/compare.py "$klog" 300
 check texts "" tools/dev/compare_texts.py "$klog" 300
 check outputs "" tools/dev/cut_output.py "$klog"

@@ -50,7 +50,7 @@ def lower(program: Program, rounds=ROUNDS, strict=True, slots=SLOTS) -> Lowered:
         lowering, image = tried(program, Settings(caps, slots, strict, False), learned)
         if image:
             return report(lowering, image)
-        limit_longest_loop(lowering, caps, rounds)
+        limit_longest_loops(lowering, caps, rounds)
     raise Refused("the program has more than 16,384 slots even with few rounds of its loops", program.line(program.entry))
 
 
@@ -82,12 +82,15 @@ def attempt(program, settings, learned):
     raise Refused("the function uses the stack in too many ways", program.line(program.entry))
 
 
-def limit_longest_loop(lowering, caps, rounds):
+def limit_longest_loops(lowering, caps, rounds):
+    """The loops with the most rounds, and those with at least half as many, get `rounds`, or half of what they had."""
     able = {head: n for head, n in lowering.deepest.items() if n >= 2 and caps.get(head, 1 << 30) > 2}
     if not able:
         raise Refused("the program has more than 16,384 slots", lowering.program.line(lowering.program.entry))
-    head = max(able, key=lambda h: able[h])
-    caps[head] = min(rounds, able[head]) if head not in caps else caps[head] // 2
+    most = max(able.values())
+    for head, n in able.items():
+        if 2 * n >= most:
+            caps[head] = caps[head] // 2 if head in caps else min(rounds, n)
 
 
 def finished(lowering, blocks):

@@ -111,7 +111,7 @@ class State:
     def _join_order(self, s, other):
         """Of numbers that are places in the record and of which one is not the same on both ways: that the one is at least the other."""
         places = [v for v, both in s.variables.items() if both.region is None and any((both.terms, region) in s.facts for region in LIMIT)]
-        new = {v for v in places if s.variables[v].terms != self.variables[v].terms}
+        new = [v for v in places if s.variables[v].terms != self.variables[v].terms]
         for end, start in itertools.product(new, places):
             if start not in new:
                 least = [side.least_difference(side.variables[end], side.variables[start]) for side in (self, other)]

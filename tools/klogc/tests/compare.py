@@ -16,7 +16,7 @@ import tempfile
 if __name__ == "__main__":
     sys.path[0] = os.path.dirname(os.path.dirname(os.path.dirname(os.path.realpath(__file__))))
 
-from klogc.compiler import LEVEL, Compiler
+from klogc.compiler import Compiler
 from klogc.lower import lower
 from klogc.meaning import Emission, Record, Run, Trap
 from klogc.program import Place, Program, Refused
@@ -27,6 +27,7 @@ from second_broker import Record as Spelled
 
 OUTPUTS = 4
 PROGRAMS_IN_ONE = 25
+LEVELS = ("-O1", "-O2", "-Os")
 LOOP, ROOM = 251, 250
 MACHINE_EVERY = 10
 TEXTS = (b'{"id":1,"name":"x"}', b"a,b,c", b"key=value", b"4111111111111111", b"Hello, World\n", b"}", b"2026-11-26 x", b"heartbeat", b"07\x03abc", b"\x08\x96\x01")
@@ -155,18 +156,18 @@ def main():
     words.add_argument("--seed", type=int, default=1)
     words.add_argument("--programs", type=int, default=20)
     words.add_argument("--records", type=int, default=50)
-    words.add_argument("--level", default=LEVEL, choices=("-O1", "-O2", "-Os"))
+    words.add_argument("--level", choices=LEVELS, help="the level of all programs; if not given, it goes round with the seed")
     words.add_argument("--compiler")
     words.add_argument("--option", action="append", default=["-ffunction-sections", "-g0"], help="one more of the compiler's options, as --option=-mcpu=v4")
     given, tally, bad = words.parse_args(), collections.Counter(), 0
     sys.setrecursionlimit(20000)
     with tempfile.TemporaryDirectory(prefix="klogc-") as folder:
-        compiler = Compiler(given.compiler, given.level, given.option)
         for seed in range(given.seed, given.seed + -(-given.programs // PROGRAMS_IN_ONE)):
-            found, wrong = compare(compiler, seed, PROGRAMS_IN_ONE, given.records, folder)
+            level = given.level or LEVELS[seed % len(LEVELS)]
+            found, wrong = compare(Compiler(given.compiler, level, given.option), seed, PROGRAMS_IN_ONE, given.records, folder)
             tally += found
             for k, text in wrong:
-                print(f"seed {seed}, program{k}: {text}", flush=True)
+                print(f"seed {seed}, program{k} at {level}: {text}", flush=True)
             bad += len(wrong)
     print(", ".join(f"{n} {word}" for word, n in sorted(tally.items())) + f"; {bad} wrong")
     sys.exit(int(bad > 0))

@@ -37,7 +37,7 @@ def one_more(old):
 FAULTS = [
     Fault("an `and` keeps what it cuts", values, "anded", lambda old: lambda a, b: a if b.is_const() else old(a, b)),
     Fault("a shift moves nothing", values, "shifted", lambda old: lambda name, bits, a, b: a),
-    Fault("a remainder is the dividend", values, "divided", lambda old: lambda name, a, b: a if name == "mod" and not a.is_const() else old(name, a, b)),
+    Fault("a remainder is less than half the divisor", numbers, "remainder", lambda old: lambda s, v, w, known: half_of(known, old(s, v, w, known))),
     Fault("of two ways the first counts", values, "joined", lambda old: lambda a, b: a),
     Fault("32 bits keep all", values, "low32", lambda old: lambda v: v),
     Fault("a sign does not follow a shift", values, "shifted", lambda old: lambda name, bits, a, b: old("rsh" if name == "arsh" else name, bits, a, b)),
@@ -66,6 +66,10 @@ FAULTS = [
     Fault("functions share their stack", program.Program, "tops", lambda old: lambda self: (dict.fromkeys(old(self)[0], old(self)[1]), old(self)[1])),
     Fault("a test is left out where it is read", layout, "view", lambda old: lambda data, table: old(data, table)._replace(never=some_test(data))),
 ]
+
+
+def half_of(known, made):
+    return made if made is known else made._replace(hi=made.hi // 2)
 
 
 def plus_one(made):

@@ -39,7 +39,7 @@ u64 %(name)s(const u8 *value, u64 value_length, const u8 *key, u64 key_length, u
 	u64 a = value_length, b = key_length, c = record_offset(), d = 1, e = 2, f = 3;
 	u32 x = nulls, y = record_timestamp(); int s = -3; short h = 7; u8 t = 9; signed char z = -1;
 	u8 buf[32] = {1, 2, 3}; u64 w[4] = {0}; struct row row = {0}, other = {0};
-	volatile u32 kept = 5; volatile u64 far = 6;
+	volatile u32 kept = 5, near = 0x70707; volatile u64 far = 6;
 %(begin)s
 %(statements)s
 %(end)s
@@ -112,7 +112,7 @@ class Maker:
             case 14 | 15:
                 return self.narrow()
             case 16:
-                return r.choice(("kept", "far", "(long)(short)far", "record_partition()"))
+                return r.choice(("kept", "near", "far", "(long)(short)far", "record_partition()"))
         return f"table[{e()} & 15]"
 
     def narrow(self):
@@ -199,7 +199,7 @@ class Maker:
             case 2:
                 return f"*(u32 *)(buf + {at & 28}) = {r.choice((0x01020304, 0xA0B0C0D0, 77))}; emit_value(7, buf, 4); {call} {v} += buf[{(at & 28) + r.randrange(4)}] + *(u16 *)(buf + {at & 30});"
             case 3:
-                return f"kept = {self.expression(2)}; {call} {v} ^= kept + (kept >> 3);"
+                return f"kept = {self.expression(2)}; near ^= x; {call} {v} ^= (u64)kept + (kept >> 3) + ((u64)near << 3);"
         return f"far = {self.expression(2)}; {call} {v} ^= far; far += {self.variable()};"
 
     def tested(self):
