@@ -1,7 +1,7 @@
 /* A value begins with a time as 2026-11-26T12:34:56Z. Emits it as milliseconds since 1970, in 8 bytes, big-endian.
  *
  * k | 1970-01-01T00:00:00Z -> 0 k | hex:0000000000000000
- * k | 2026-11-26T12:34:56Z hello -> 0 k | hex:0000019ac00fe380
+ * k | 2026-11-26T12:34:56Z hello -> 0 k | hex:000001a217da0d80
  * k | 2026-13-26T12:34:56Z -> reject 12
  * k | 2026-11-26 12:34:56Z -> reject 11
  * k | 2026-11-26T12:34 -> reject 10 */

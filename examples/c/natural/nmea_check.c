@@ -1,11 +1,11 @@
 /* A value is a sentence of a GPS receiver of up to 82 bytes: $, the text, *, and the exclusive or of the text's bytes as two hexadecimal
  * digits. Emits the text of a right one, and rejects others.
  *
- * k | $GPGLL,A*5C -> 0 k | GPGLL,A
- * k | $A*41 -> 0 k | A
- * k | $A*42 -> reject 12
+ * k | $GPGLL,A\x2a3D -> 0 k | GPGLL,A
+ * k | $A\x2a41 -> 0 k | A
+ * k | $A\x2a42 -> reject 12
  * k | $A\x2a4 -> reject 11
- * k | A*41 -> reject 10
+ * k | A\x2a41 -> reject 10
  * k | null -> reject 10 */
 #include "klog.h"
 
