@@ -208,7 +208,9 @@ class Program:
         """How much of the stack a function uses, in whole words: the least offset from its end at which it has an address."""
         listed, _ = self.code(section)
         symbol = self.functions.get((section, entry))
-        end = entry + (symbol.size // 8 if symbol and symbol.size else len(listed))
+        end = max(listed, default=-1) + 1
+        if symbol and symbol.size:
+            end = min(end, entry + symbol.size // 8)
         least, frames = 0, {10}
         for slot in range(entry, end):
             match listed.get(slot, (("none",), 1))[0]:

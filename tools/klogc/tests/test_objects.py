@@ -1,5 +1,7 @@
 """Objects: random programs of every form of instruction mean the same after the pass; damaged objects are refused by a sentence."""
 import random
+import struct
+import time
 import unittest
 
 import random_images
@@ -63,6 +65,14 @@ class Objects(unittest.TestCase):
                 (self.packed(slot(0xC3, 10) + slot(0x95)), "clang wrote what klog's machine does not have (I6 NotInProfile slot")):
             with self.subTest(said):
                 self.assertIn(said, refusal(data))
+
+    def test_long_symbol(self):
+        """A function that is said to be longer than its section ends with it."""
+        data = self.packed()
+        size_at = data.index(struct.pack("<IBBH", 1, 0x12, 0, 1)) + 16
+        start = time.process_time()
+        self.assertEqual(refusal(data[:size_at] + struct.pack("<Q", 1 << 29) + data[size_at + 8:]), "made")
+        self.assertLess(time.process_time() - start, 5)
 
     def test_damage(self):
         """Whatever is changed in an object, it is refused or gives an image; nothing else ends the pass."""
