@@ -4,6 +4,7 @@
     tools/dev/rt_fast.py WORDS ..              rt WORDS, in a crate's folder: check, run, test, try, lib
     tools/dev/rt_fast.py libraries N [CRATE ..]    at the top: builds all libraries, or those named and what they use, N at a time
     tools/dev/rt_fast.py compiles              in a crate's folder: whether it and its tests compile, over the sources below
+    tools/dev/rt_fast.py over_sources WORDS ..     in a crate's folder: a check of it over the sources below, proved or not
 
 `rt` sums up all files below a crate for each library that it names, again and again, and in a new clone reads each crate above
 all others before it builds a library. Here the sum of a crate is made once a call, and no crate is read before: so edit nothing
@@ -110,12 +111,21 @@ def compiles(rt):
     return ran.returncode
 
 
+def over_sources(rt, flags):
+    here = os.getcwd()
+    crate = rt.Crate(here, rt.root_above(here) or here, {})
+    words = crate.words([*flags, "--jobs", "1"], as_source=True)
+    return subprocess.run([rt.RATTLE, "check", *words, *rt.KEPT, "--progress"]).returncode
+
+
 def main(words):
     if not words or words[0] in ("-h", "--help"):
         print(__doc__)
         return 0
     if words[0] == "libraries" and len(words) > 1 and words[1].isdigit():
         return build_libraries(kit(), max(1, int(words[1])), words[2:])
+    if words[0] == "over_sources":
+        return over_sources(kit(), words[1:])
     if words == ["compiles"]:
         return compiles(kit())
     return kit().main(*words)

@@ -49,7 +49,7 @@ impl Model for EmittedList {
 
 /// Other owners of the headers' parts, in a list of their own. Most records have no headers.
 #[inline(always)]
-fn share_some(alloc: Global, headers: &Headers) -> Result<Headers, AllocError>
+pub(crate) fn share_some(alloc: Global, headers: &Headers) -> Result<Headers, AllocError>
     ensures { IfOk result (λ shared. shared ≡ headers.now) }
 {
     if headers.list.is_empty() {

@@ -2,6 +2,7 @@
 //! programs.
 #![tactic(auto)]
 
+mod changes;
 mod emitted;
 mod emitter;
 mod headers;
@@ -10,11 +11,12 @@ mod pieces;
 mod place;
 mod room;
 
+pub use changes::{PartSlice, ValueChange};
 pub use emitted::{Emitted, EmittedList};
 pub use emitter::Emitter;
 pub use headers::{HeaderPart, header_count, header_key, header_value};
 pub use kafka_record::{NullableBytes, RecordRef};
-pub use machine_spec::{Emission, Emissions, Helper, Outcome, Place};
+pub use machine_spec::{Emission, Emissions, Helper, Outcome, Part, Place};
 pub use parts::{null_flags, text, text_length};
 pub use pieces::Piece;
 pub use place::{offset, partition, timestamp};

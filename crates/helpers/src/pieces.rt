@@ -2,6 +2,7 @@
 ghost use Rattle.std.specs.Prelude.{◌≡◌, length, IfOk};
 ghost use Rattle.helpers.specs.Pieces.{piece_bytes, IsPiece};
 
+use crate::parts::text;
 use bytes::Bytes;
 use kafka_record::RecordRef;
 use std::alloc::{AllocError, Global};
@@ -27,6 +28,18 @@ impl<'a> Piece<'a> {
             Piece::Key(start, end) => end - start,
             Piece::Value(start, end) => end - start,
             Piece::Stack(bytes) => bytes.len(),
+        }
+    }
+
+    /// The bytes, where they are.
+    pub fn slice(self, given: &RecordRef<'a>) -> &'a [u8]
+        requires { IsPiece given.now self }
+        ensures { result.now ≡ piece_bytes given.now self.entry }
+    {
+        match self {
+            Piece::Key(start, end) => &text(&given.key())[start..end],
+            Piece::Value(start, end) => &text(&given.value())[start..end],
+            Piece::Stack(bytes) => bytes,
         }
     }
 

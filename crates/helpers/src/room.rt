@@ -3,7 +3,7 @@ ghost use Rattle.std.specs.Prelude.{◌≡◌, if◌then◌else◌, length};
 ghost use Rattle.machine_spec.specs.Machine.{has_part, part_of, padded};
 
 /// Whether there are `count` bytes from a place on. The sum does not wrap.
-fn has_part(bytes: &[u8], at: u64, count: usize) -> bool
+pub(crate) fn has_part(bytes: &[u8], at: u64, count: u64) -> bool
     ensures { result ≡ has_part bytes.now at count }
 {
     at as u128 + count as u128 <= bytes.len() as u128
@@ -15,7 +15,7 @@ pub fn load_part(bytes: &[u8], at: u64, room: &mut [u8]) -> u64
     ensures answer { result ≡ (if has_part bytes.now at (length room.old) then 0 else 1) }
     ensures room { room.new ≡ part_of bytes.now at (length room.old) }
 {
-    if has_part(bytes, at, room.len()) {
+    if has_part(bytes, at, room.len() as u64) {
         let start = at as usize;
         room.copy_from_slice(&bytes[start..start + room.len()]);
         0

@@ -1,10 +1,11 @@
 -- The emissions of a run: no more than there may be, and each within the limits of a record.
 use Rattle.std.proofs.Common.{◌≡◌, ℕ, zero, suc, ◌+◌, ◌<◌, ◌≤◌, Bool, true, false, ℤ, if◌then◌else◌, List, [], ◌∷◌}
 use Rattle.std.proofs.Common.{length, length-append, Option, Some, None, refl, sym, subst, ⊎_elim, inl, inr, ◌⊎◌, arith}
-use Rattle.std.proofs.Common.{◌==◌, nat_le, nat_lt, unsigned_abs, All}
+use Rattle.std.proofs.Common.{◌==◌, nat_le, nat_lt, unsigned_abs, All, take, drop}
 use Rattle.std.specs.List.{list_any}
 use Rattle.std.proofs.lemmas.Bool.{or_parts, and_parts, not-false, leb-true, leb-false, ltb-false, cases_Bool}
-use Rattle.std.proofs.lemmas.Bool.{cond-true, cond-false, eqb-true, false≢true}
+use Rattle.std.proofs.lemmas.Bool.{cond-true, cond-false, cond_both, eqb-true, false≢true}
+use Rattle.std.proofs.lemmas.List.{length-take, length-drop}
 use Rattle.std.proofs.lemmas.List.Elements as elements
 use Rattle.wire_spec.specs.declared.limits.TheConstants.{MAX_KEY, MAX_VALUE}
 use Rattle.machine_spec.specs.{declared.limits.TheConstants.STACK_SIZE, declared.limits.TheConstants.MAX_EMISSIONS}
@@ -13,15 +14,18 @@ use Rattle.machine_spec.specs.{declared.helper.Helper.Helper, declared.outcome.E
 use Rattle.machine_spec.specs.{declared.summary.Direction.TheVariants.Read, Meaning.Reaches}
 use Rattle.machine_spec.specs.declared.instruction.Region.TheVariants as region
 use Rattle.machine_spec.specs.declared.instruction.Instruction.TheVariants.{Call}
-use Rattle.machine_spec.specs.declared.helper.Helper.TheVariants.{EmitRecord, EmitValue, Emit, EmitNull}
+use Rattle.machine_spec.specs.declared.helper.Helper.TheVariants.{EmitRecord, EmitValue, Emit, EmitNull, EmitPart}
+use Rattle.machine_spec.specs.declared.helper.Helper.TheVariants.{EmitChanged}
 use Rattle.machine_spec.specs.Image.{Program}
 use Rattle.machine_spec.specs.Values.{Value, Number, Address}
 use Rattle.machine_spec.specs.Machine.{Input, State, Access, bytes_of, length_of, byte_in, bytes_from, bytes_read}
 use Rattle.machine_spec.specs.Machine.{bytes_at, named_access, signature_of, helper_of, number_held, emit_code}
 use Rattle.machine_spec.specs.Machine.{emitted_after, whole_record, bare_record, effect_of, state_after_call}
-use Rattle.machine_spec.specs.Machine.{state_after}
+use Rattle.machine_spec.specs.Machine.{state_after, cut_record, changed_record, emitted_unless, cut_refusal, change_refusal}
+use Rattle.machine_spec.specs.Machine.{changed_bytes, has_part, number_in, part_named}
 use Rattle.machine_spec.specs.Traps.{is_in_region, names_wrongly, is_wrong_argument, calls_wrongly, arguments_of}
-use Rattle.machine_spec.proofs.{Free.is_free, Helpers.names_parts}
+use Rattle.machine_spec.specs.Parts.{part_numbered}
+use Rattle.machine_spec.proofs.{Free.is_free, Helpers.names_parts, PartAnswers.IsShort, PartAnswers.part_short}
 
 -- An emission is within the limits of a record: it goes to an output partition, its key and its value are short enough,
 -- and its headers are the record's or none.
@@ -57,12 +61,31 @@ length_from byte place (suc count) = let rest = length_from byte (place + 1) cou
 within_is_few : (start : ℤ) (size len : ℕ) → is_in_region start size len ≡ true → len ≤ MAX_VALUE → size ≤ MAX_VALUE
 within_is_few start size len inside few = grind (arith, leb-true, and_parts)
 
-module _ (input : Input) (key : length (bytes_of input.given.key) ≤ MAX_KEY)
-    (value : length (bytes_of input.given.value) ≤ MAX_VALUE) where
+abbrev change_by : Bool → Bool → ℕ
+change_by has long = if has then (if long then 5 else 0) else 4
+
+no_change_refusal : (has long : Bool) → change_by has long ≡ 0 → long ≡ false
+no_change_refusal true false e = refl
+no_change_refusal _ _ e = absurd (omega arith)
+
+-- a change that is not refused gives no longer value than there may be
+change_fits : (value : List ℕ) (place count : ℕ) (others : List ℕ) →
+    (change_refusal value place count others == 0) ≡ true → length (changed_bytes value place count others) ≤ MAX_VALUE
+change_fits value place count others none =
+    ltb-false MAX_VALUE (length (changed_bytes value place count others))
+    (no_change_refusal (has_part value place count)
+    (nat_lt MAX_VALUE (length (changed_bytes value place count others))) (eqb-true _ 0 none))
+
+cut_fits : (part : List ℕ) (place count : ℕ) → length part ≤ MAX_VALUE → length (take count (drop place part)) ≤ MAX_VALUE
+cut_fits part place count few =
+    let taken = length-take count (drop place part) in
+    let dropped = length-drop place part in omega (arith, taken, dropped, few)
+
+module _ (input : Input) (short : IsShort input.given) where
   emitted_one : (emitted : List Emission) (emission : Emission) → length (bytes_of emission.value) ≤ MAX_VALUE →
       (emission.headers ≡ input.given.headers) ⊎ (emission.headers ≡ []) → AreEmissions input emitted →
       AreEmissions input (emitted_after input emitted emission)
-  emitted_one emitted emission short headers are = ⊎_elim
+  emitted_one emitted emission few headers are = ⊎_elim
       (λ added.
       let fits = no_refusal (nat_le input.place.outputs emission.out) (nat_lt MAX_KEY (length (bytes_of emission.key)))
       (nat_le MAX_EMISSIONS (length emitted)) (eqb-true _ 0 added) in
@@ -71,7 +94,7 @@ module _ (input : Input) (key : length (bytes_of input.given.key) ≤ MAX_KEY)
       record {
         out = leb-false input.place.outputs emission.out fits.0;
         key = ltb-false MAX_KEY (length (bytes_of emission.key)) fits.1;
-        value = short;
+        value = few;
         headers = headers;
       } in
       subst (AreEmissions input) (sym (cond-true _ _ _ added))
@@ -83,13 +106,22 @@ module _ (input : Input) (key : length (bytes_of input.given.key) ≤ MAX_KEY)
       (λ refused. subst (AreEmissions input) (sym (cond-false _ _ _ refused)) are)
       (cases_Bool (emit_code input emitted emission == 0))
 
+  -- so it is where the emission may be refused
+  emitted_or_not : (emitted : List Emission) (refusal : ℕ) (emission : Emission) →
+      ((refusal == 0) ≡ true → length (bytes_of emission.value) ≤ MAX_VALUE) →
+      (emission.headers ≡ input.given.headers) ⊎ (emission.headers ≡ []) → AreEmissions input emitted →
+      AreEmissions input (emitted_unless input emitted refusal emission)
+  emitted_or_not emitted refusal emission few headers are =
+      cond_both (refusal == 0) (emitted_after input emitted emission) emitted (AreEmissions input)
+      (λ none. emitted_one emitted emission (few none) headers are) (λ refused. are)
+
   -- ---- bytes named by address
 
   -- no region is longer than a value may be
   few_bytes : (at : Region) → length_of input at ≤ MAX_VALUE
   few_bytes region.Stack = omega arith
-  few_bytes region.Key = omega (arith, key)
-  few_bytes region.Value = value
+  few_bytes region.Key = let key = short.key in omega (arith, key)
+  few_bytes region.Value = short.value
 
   abbrev read_from : Region → ℤ → ℕ → Access
   read_from at start n = record { direction = Read; region = at; start = start; size = n }
@@ -117,7 +149,7 @@ module _ (input : Input) (key : length (bytes_of input.given.key) ≤ MAX_KEY)
       list_any (is_wrong_argument input s) (signature_of helper).arguments ≡ false → AreEmissions input s.emitted →
       AreEmissions input (effect_of helper input s).emitted
   effect_emits EmitRecord s right are =
-      emitted_one s.emitted (whole_record input (number_held (s.registers 1))) value (inl refl) are
+      emitted_one s.emitted (whole_record input (number_held (s.registers 1))) short.value (inl refl) are
   effect_emits EmitValue s right are =
       let bytes = named_few s.stack (s.registers 2) (s.registers 3) (or_parts _ _ (or_parts _ _ right).1).0 in
       emitted_one s.emitted (bare_record (number_held (s.registers 1)) input.given.key (Some (bytes_at input s 2 3)))
@@ -130,6 +162,18 @@ module _ (input : Input) (key : length (bytes_of input.given.key) ≤ MAX_KEY)
   effect_emits EmitNull s right are =
       emitted_one s.emitted (bare_record (number_held (s.registers 1)) input.given.key None) (omega arith) (inr refl)
       are
+  effect_emits EmitPart s right are =
+      let part = part_named input s 2 in
+      emitted_or_not s.emitted (cut_refusal part (number_in s 3) (number_in s 4))
+      (cut_record input (number_in s 1) part (number_in s 3) (number_in s 4))
+      (λ none. cut_fits part (number_in s 3) (number_in s 4)
+      (part_short input.given short (part_numbered (number_in s 2)))) (inl refl) are
+  effect_emits EmitChanged s right are =
+      let value = bytes_of input.given.value in
+      let others = bytes_at input s 4 5 in
+      emitted_or_not s.emitted (change_refusal value (number_in s 2) (number_in s 3) others)
+      (changed_record input (number_in s 1) (number_in s 2) (number_in s 3) others)
+      (λ none. change_fits value (number_in s 2) (number_in s 3) others none) (inl refl) are
   effect_emits _ s right are = are
 
   call_emits : (helper : Option Helper) (s : State) →

@@ -3,10 +3,12 @@ pub mod ReadParts
 pub mod FirstOf
 pub mod Free
 pub mod Emitted
+pub mod PartAnswers
 pub mod Helpers
 pub mod Meanings
 pub mod Results
 pub mod Runs
+pub mod PartRuns
 pub mod Slots
 pub mod WorkedImages
 pub mod WorkedNumbers

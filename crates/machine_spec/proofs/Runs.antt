@@ -9,7 +9,7 @@ use Rattle.machine_spec.specs.declared.instruction.Trap.TheVariants as trap
 use Rattle.machine_spec.specs.declared.outcome.Outcome.TheVariants.{Kept, Rejected}
 use Rattle.machine_spec.specs.{Opcodes.template_of, Opcodes.is_left_out, Summaries.summary_of, Traps.trap_at}
 use Rattle.machine_spec.specs.Image.{Program, program_of, form_at, read_slot, read_fields, first_slots}
-use Rattle.machine_spec.specs.Machine.{Input, State, entry, state_after}
+use Rattle.machine_spec.specs.Machine.{Input, State, entry, state_after, helper_among}
 use Rattle.machine_spec.specs.Meaning.{Reaches, Means, IsTrapped, outcome_of}
 use Rattle.machine_spec.proofs.Meanings.{exit_is, other_than_exit, step_on}
 
@@ -88,7 +88,7 @@ run_ends program input turns end e = ends_from program input turns 0 (entry inpu
 abbrev slot_with : ℕ → ℕ → ℕ → List ℕ → List ℕ
 slot_with opcode registers offset imm = (opcode ∷ registers ∷ offset ∷ 0 ∷ []) ++ imm
 
-abbrev small : ℕ → List ℕ
+abbrev pub small : ℕ → List ℕ
 small n = n ∷ 0 ∷ 0 ∷ 0 ∷ []
 
 abbrev minus : ℕ → List ℕ
@@ -106,7 +106,7 @@ move_to register number = slot 0xb7 register 0 number
 abbrev move : ℕ → List ℕ
 move registers = slot 0xbf registers 0 0
 
-abbrev call : ℕ → List ℕ
+abbrev pub call : ℕ → List ℕ
 call helper = slot 0x85 0 0 helper
 
 abbrev pub exit : List ℕ
@@ -117,14 +117,14 @@ abbrev wide_move : List ℕ → List ℕ → List ℕ
 wide_move lower upper = slot_with 0x18 0 0 lower ++ slot_with 0 0 0 upper
 
 -- an instruction on the stack: opcode, registers, the offset below its end, an immediate
-abbrev at_end : ℕ → ℕ → ℕ → List ℕ → List ℕ
+abbrev pub at_end : ℕ → ℕ → ℕ → List ℕ → List ℕ
 at_end opcode registers below imm = (opcode ∷ registers ∷ (256 - below) ∷ 0xff ∷ []) ++ imm
 
 abbrev on_stack : ℕ → ℕ → ℕ → List ℕ
 on_stack opcode registers below = at_end opcode registers below (small 0)
 
 -- ld64 r0, [r10-8]
-abbrev load_64 : List ℕ
+abbrev pub load_64 : List ℕ
 load_64 = on_stack 0x79 0xa0 8
 
 abbrev repeated : ℕ → List ℕ → List ℕ
@@ -172,7 +172,7 @@ abbrev exchanged : List ℕ
 exchanged = move 0x36 ++ move 0x45 ++ move 0x64 ++ move 0x23 ++ move 0x12 ++ move_to 1 0 ++ call 5 ++ exit
 
 -- a register gets the address r10-8
-abbrev to_end : ℕ → List ℕ
+abbrev pub to_end : ℕ → List ℕ
 to_end register = move (0xa0 + register) ++ slot_with 0x07 register 0 (minus 8)
 
 -- st32 [r10-8], 7; COUNT bytes from there are emitted
@@ -213,7 +213,7 @@ outcomes =
     ∷ []
 
 outcomes_hold : EndAsSaid outcomes
-unfolding read_slot read_fields template_of is_left_out first_slots trap_at state_after
+unfolding read_slot read_fields template_of is_left_out first_slots trap_at state_after helper_among
 outcomes_hold = refl
 
 -- ---- arithmetic
@@ -257,7 +257,7 @@ changes =
 
 changes_hold : EndAsSaid
     (map (λ row. (slot_with 0xb7 0 0 (minus 2) ++ row.0 ++ exit, None, Out (Rejected row.1) 3)) changes)
-unfolding read_slot read_fields template_of is_left_out first_slots trap_at state_after
+unfolding read_slot read_fields template_of is_left_out first_slots trap_at state_after helper_among
 changes_hold = refl
 
 -- ---- conditional jumps
@@ -308,7 +308,7 @@ of_jump opcode number end = (jump_over opcode number, three_bytes, end)
 
 jumps_hold : EndAsSaid
     (flat_map (λ row. of_jump row.0 2 row.1 ∷ of_jump row.0 3 row.2 ∷ of_jump row.0 4 row.3 ∷ []) jumps)
-unfolding read_slot read_fields template_of is_left_out first_slots trap_at state_after
+unfolding read_slot read_fields template_of is_left_out first_slots trap_at state_after helper_among
 jumps_hold = refl
 
 -- mov32 r2, -2, and a jump over the next by r2 and -2
@@ -349,7 +349,7 @@ more_jumps =
     ∷ []
 
 more_jumps_hold : EndAsSaid more_jumps
-unfolding read_slot read_fields template_of is_left_out first_slots trap_at state_after
+unfolding read_slot read_fields template_of is_left_out first_slots trap_at state_after helper_among
 more_jumps_hold = refl
 
 -- ---- the stack
@@ -376,7 +376,7 @@ stack_uses =
     ∷ []
 
 stack_uses_hold : EndAsSaid (map (λ row. (row.0 ++ exit, row.1, Out (Rejected row.2) row.3)) stack_uses)
-unfolding read_slot read_fields template_of is_left_out first_slots trap_at state_after
+unfolding read_slot read_fields template_of is_left_out first_slots trap_at state_after helper_among
 stack_uses_hold = refl
 
 -- ---- traps
@@ -476,5 +476,5 @@ trapped_runs =
     ∷ []
 
 trapped_runs_hold : EndAsSaid trapped_runs
-unfolding read_slot read_fields template_of is_left_out first_slots trap_at state_after
+unfolding read_slot read_fields template_of is_left_out first_slots trap_at state_after helper_among
 trapped_runs_hold = refl

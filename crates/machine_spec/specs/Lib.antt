@@ -3,6 +3,11 @@ pub mod Image
 pub mod Arithmetic
 pub mod Values
 pub mod Summaries
+pub mod Parts
+pub mod Places
+pub mod Numbers
+pub mod Hashes
+pub mod Signatures
 pub mod Machine
 pub mod Traps
 pub mod Meaning

@@ -11,9 +11,10 @@ mod limits;
 mod opcode;
 mod operation;
 mod outcome;
+mod part;
 mod summary;
 
-pub use helper::{Argument, HELPERS, Helper, Signature, TABLE_ONE, Table};
+pub use helper::{Argument, HELPERS, Helper, Signature, TABLE_ONE, TABLE_TWO, Table};
 pub use instruction::{
     Distance, Extension, Instruction, IsaFault, Placed, Region, Size, Source, Trap,
 };
@@ -21,4 +22,5 @@ pub use limits::{MAX_EMISSIONS, MAX_SLOTS, STACK_SIZE};
 pub use opcode::TEMPLATES;
 pub use operation::{ByteOrder, Change, ExtendedWidth, Operation, SwappedWidth, Test, Width};
 pub use outcome::{Emission, Emissions, Outcome, Place};
+pub use part::Part;
 pub use summary::{Condition, Direction, MemoryOperand, Operands, Summary};

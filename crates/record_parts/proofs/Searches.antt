@@ -6,7 +6,7 @@ use Rattle.std.proofs.lemmas.Bool.Decides.{Decides-eqb}
 use Rattle.std.proofs.lemmas.List.{get_or-take, get_or-drop, length-take, length-drop}
 use Rattle.std.proofs.lemmas.{List.Prefix.at_from_reads, List.Prefix.at_reads, Slice.Eq.starts_is}
 use Rattle.memchr.specs.Find.{OccursAt, FindsNeedle}
-use Rattle.record_parts.specs.Places.{stand_at, least_place, find_answer}
+use Rattle.machine_spec.specs.Places.{stand_at, least_place, find_answer}
 
 -- ---- the least place
 

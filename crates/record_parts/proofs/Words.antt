@@ -3,8 +3,8 @@ use Rattle.std.proofs.Common.{◌≡◌, ℕ, zero, suc, ◌+◌, ◌*◌, ◌/�
 use Rattle.std.proofs.Common.{◌∙◌, ap, arith}
 use Rattle.std.specs.{Simd.first_chunks, Int.Bits.bit_xor, Int.w32, Int.from_le_bytes}
 use borrow.Rule.Slice.PartMut.{put_mid}
-use Rattle.record_parts.specs.Hashes.{word_of}
-use Rattle.record_parts.specs.Hashes.{after_word, after_bytes, multiplied}
+use Rattle.machine_spec.specs.Hashes.{word_of}
+use Rattle.machine_spec.specs.Hashes.{after_word, after_bytes, multiplied}
 
 -- the hash after words
 pub after-words : (k hash : ℕ) (bytes : List ℕ) → k * 4 ≤ length bytes →

@@ -4,10 +4,10 @@ ghost use Rattle.std.specs.Prelude.{◌≡◌, ◌^◌, ◌<◌, ◌≤◌, leng
 ghost use Rattle.std.specs.List.{list_all};
 ghost use Rattle.std.specs.Char.{is_ascii_digit};
 ghost use Rattle.std.specs.Str.Parse.{digits_value};
-ghost use Rattle.record_parts.specs.Parts.{part_bytes};
-ghost use Rattle.record_parts.specs.Numbers.{are_digits, decimal_answer};
+ghost use Rattle.machine_spec.specs.Parts.{part_bytes};
+ghost use Rattle.machine_spec.specs.Numbers.{are_digits, decimal_answer};
 
-use crate::part::Part;
+use machine_spec::Part;
 use crate::ranges::bytes_at;
 use kafka_record::RecordRef;
 

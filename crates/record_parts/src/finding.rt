@@ -1,10 +1,11 @@
 //! Where bytes stand in a part.
 
 ghost use Rattle.std.specs.Prelude.{◌≡◌, ◌+◌, ◌-◌, ◌^◌, ◌<◌, ◌≤◌, length, take, drop};
-ghost use Rattle.record_parts.specs.Parts.{part_bytes};
-ghost use Rattle.record_parts.specs.Places.{find_answer};
+ghost use Rattle.machine_spec.specs.Parts.{part_bytes};
+ghost use Rattle.machine_spec.specs.Places.{find_answer};
 
-use crate::part::{Part, part_bytes};
+use crate::part::part_bytes;
+use machine_spec::Part;
 use kafka_record::RecordRef;
 use memchr::memmem;
 

@@ -1,9 +1,10 @@
 //! The hash by which Kafka's clients choose a partition.
 
 ghost use Rattle.std.specs.Prelude.{◌≡◌, ◌<◌, ◌≤◌, ◌^◌, length, fold};
-ghost use Rattle.record_parts.specs.Hashes as definitions;
+ghost use Rattle.machine_spec.specs.Hashes as definitions;
 
-use crate::part::{Part, part_of};
+use crate::part::part_of;
+use machine_spec::Part;
 use kafka_record::RecordRef;
 
 /// The multiplier of murmur2.

@@ -2,7 +2,7 @@
 
 ghost use Rattle.std.specs.Prelude.{◌≡◌, position};
 ghost use Rattle.std.specs.Str.{bytes_eq};
-ghost use Rattle.record_parts.specs.Parts.{header_answer};
+ghost use Rattle.machine_spec.specs.Parts.{header_answer};
 
 use kafka_record::RecordRef;
 use wire_spec::Header;

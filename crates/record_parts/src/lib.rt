@@ -16,5 +16,6 @@ pub use decimals::{MAX_DIGITS, decimal};
 pub use finding::{FIND_PLACES, find};
 pub use hashing::hash;
 pub use headers::header;
-pub use part::{Part, part_bytes, part_length};
+pub use machine_spec::Part;
+pub use part::{part_bytes, part_length};
 pub use ranges::{bytes_at, equals};

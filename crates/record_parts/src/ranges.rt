@@ -1,17 +1,18 @@
 //! The bytes at a place of a part.
 
 ghost use Rattle.std.specs.Prelude.{◌≡◌, option_map};
-ghost use Rattle.record_parts.specs.Parts.{part_bytes};
-ghost use Rattle.record_parts.specs.Places as definitions;
+ghost use Rattle.machine_spec.specs.Parts.{part_bytes};
+ghost use Rattle.machine_spec.specs.Places as definitions;
 
-use crate::part::{Part, part_bytes};
+use crate::part::part_bytes;
+use machine_spec::Part;
 use kafka_record::RecordRef;
 
 /// The bytes from a place of a part on, as many as are asked for. There are none where the part lacks one of
 /// them.
 pub fn bytes_at<'a>(given: &RecordRef<'a>, part: Part, place: u64, count: u64) -> Option<&'a [u8]>
     ensures { option_map (λ bytes. bytes.now) result
-        ≡ definitions.bytes_at (part_bytes given.now part) place count }
+        ≡ definitions.cut_of (part_bytes given.now part) place count }
 {
     let part = part_bytes(given, part);
     if place as u128 + count as u128 <= part.len() as u128 {

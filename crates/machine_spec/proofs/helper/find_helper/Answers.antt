@@ -3,7 +3,8 @@ use Rattle.std.proofs.Common.{of_z, w32, sym, ap, subst, ◌∙◌, arith, rules
 use Rattle.std.specs.Ordering.{int_eq}
 use Rattle.std.proofs.{Math.Seq.drop-cons, lemmas.Bool.cond-true, lemmas.Bool.Decides.Decides-int_eq, lemmas.Int.ints}
 use Rattle.std.proofs.lemmas.Int.{to_z-of_z}
-use Rattle.machine_spec.specs.{declared.helper.Signature.Signature, declared.helper.Helper.Helper, Machine.signature_of}
+use Rattle.machine_spec.specs.{declared.helper.Signature.Signature, declared.helper.Helper.Helper, Signatures.signature_of}
+use Rattle.machine_spec.specs.Signatures.{helper_among}
 use Rattle.machine_spec.specs.declared.helper.Helper.TheVariants.{LoadValue}
 use Rattle.machine_spec.proofs.helper.find_helper.Goals as goal
 
@@ -23,6 +24,7 @@ number_fits LoadValue = omega (arith, ints)
 number_fits _ = omega (arith, ints)
 
 pub returns-then-signature-number : goal.returns-then-signature-number
+unfolding helper_among
 returns-then-signature-number c =
     let fits : FitsSigned w32 c.signature.result.number =
     subst (λ (s : Signature). FitsSigned w32 s.number) (sym c.signature.ensures) (number_fits _) in

@@ -1,6 +1,6 @@
 use Rattle.std.proofs.Common.{◌≡◌, take, fold}
-use Rattle.record_parts.specs.Hashes.{word_of}
-use Rattle.record_parts.specs.Hashes.{after_word}
+use Rattle.machine_spec.specs.Hashes.{word_of}
+use Rattle.machine_spec.specs.Hashes.{after_word}
 use Rattle.record_parts.proofs.hashing.after_words.Given as goal
 
 abbrev pub invariant-loop-word : goal.invariant-loop-word

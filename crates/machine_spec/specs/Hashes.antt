@@ -2,8 +2,8 @@
 use Rattle.std.specs.Prelude.{ℕ, ◌+◌, ◌*◌, ◌/◌, ◌%◌, ◌^◌, List, [], ◌∷◌, length, Option, Some, None, bit_xor}
 use Rattle.std.specs.Simd.Lanes.{number_l}
 use Rattle.wire_spec.specs.declared.record.Record.{Record}
-use Rattle.record_parts.specs.declared.part.Part.{Part}
-use Rattle.record_parts.specs.Parts.{part_of}
+use Rattle.machine_spec.specs.declared.part.Part.{Part}
+use Rattle.machine_spec.specs.Parts.{part_in}
 
 -- the number that bytes are, the first one lowest
 abbrev pub word_of : List ℕ → ℕ
@@ -39,4 +39,4 @@ hash_of None = 0
 
 -- the same of a record's part
 abbrev pub hash_answer : Record → Part → ℕ
-hash_answer given part = hash_of (part_of given part)
+hash_answer given part = hash_of (part_in given part)

@@ -1,7 +1,7 @@
 -- Decimal numbers in a part.
 use Rattle.std.specs.Prelude.{ℕ, ◌+◌, Bool, ◌&&◌, nat_le, if◌then◌else◌, List, length, Option, Some, None}
 use Rattle.std.specs.{Char.is_ascii_digit, List.list_all, Str.Parse.digits_value}
-use Rattle.record_parts.specs.Places.{bytes_at}
+use Rattle.machine_spec.specs.Places.{cut_of}
 
 -- 1 to 18 bytes, each of which is an ASCII digit
 abbrev pub are_digits : List ℕ → Bool
@@ -14,4 +14,4 @@ decimal_of None = 0
 
 -- the same of `count` bytes from a place on
 abbrev pub decimal_answer : List ℕ → (place count : ℕ) → ℕ
-decimal_answer part place count = decimal_of (bytes_at part place count)
+decimal_answer part place count = decimal_of (cut_of part place count)

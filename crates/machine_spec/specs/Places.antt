@@ -4,8 +4,8 @@ use Rattle.std.specs.Prelude.{Option, Some, None}
 use Rattle.std.specs.{Option.option_map_or, List.starts_with}
 
 -- `count` bytes from a place on; none where not all of them are there
-abbrev pub bytes_at : List ℕ → (place count : ℕ) → Option (List ℕ)
-bytes_at part place count = if nat_le (place + count) (length part) then Some (take count (drop place part)) else None
+abbrev pub cut_of : List ℕ → (place count : ℕ) → Option (List ℕ)
+cut_of part place count = if nat_le (place + count) (length part) then Some (take count (drop place part)) else None
 
 -- these bytes stand at a place of a part: it is one of the part's or its end, and what follows begins with them
 abbrev pub stand_at : (part bytes : List ℕ) → ℕ → Bool

@@ -1,0 +1,201 @@
+//! Emissions of the record with another value: a piece of one of its parts, or its value with a change.
+ghost use Rattle.std.specs.Prelude.{◌≡◌, ◌++◌, ◌∷◌, ◌+◌, ◌<◌, ◌≤◌, [], length, take, drop, IfOk, OnOk, OnErr, Some};
+ghost use Rattle.machine_spec.specs.Machine.{bytes_of, code_unless, emitted_unless, cut_refusal, cut_record, changed_bytes, change_refusal, changed_record};
+ghost use Rattle.machine_spec.specs.Parts.{part_bytes};
+ghost use Rattle.machine_spec.specs.Places.{cut_of};
+ghost use Rattle.helpers.specs.declared.emitted.Emitted.TheVariants.{Made};
+ghost use Rattle.helpers.specs.Emitted.{emissions_in};
+ghost use Rattle.helpers.specs.Pieces.{piece_bytes, IsPiece};
+
+use crate::emitted::{Emitted, share_some};
+use crate::emitter::{Emitter, code_of};
+use crate::parts::{text, text_length};
+use crate::pieces::Piece;
+use crate::room::has_part;
+use bytes::Bytes;
+use kafka_record::RecordRef;
+use machine_spec::{Emission, MAX_EMISSIONS, Part, Place};
+use record_parts::bytes_at;
+use std::alloc::{AllocError, Global};
+use wire_spec::MAX_VALUE;
+
+/// So many bytes of a part of the record, from a place on.
+#[derive(Clone, Copy, Debug)]
+pub struct PartSlice {
+    pub part: Part,
+    pub place: u64,
+    pub count: u64,
+}
+
+/// A change of the record's value: so many bytes from a place on become others.
+#[derive(Clone, Copy, Debug)]
+pub struct ValueChange<'a> {
+    pub place: u64,
+    pub count: u64,
+    pub bytes: Piece<'a>,
+}
+
+/// The emit code where a part, or the value, lacks the bytes that are asked for.
+const LACKS_BYTES: u64 = 4;
+
+/// The emit code where the value gets longer than 1,048,576 bytes.
+const TOO_LONG: u64 = 5;
+
+/// The bytes of a piece of a part, if all of them are there. Those of the key and the value share the record's
+/// buffer, those of a header are copied. It fails only where memory runs out.
+fn cut(
+    alloc: Global,
+    given: &RecordRef,
+    slice: &PartSlice,
+) -> Result<Option<Bytes>, AllocError>
+    ensures { IfOk result (λ cut. cut ≡ cut_of (part_bytes given.now slice.now.part) slice.now.place slice.now.count) }
+{
+    let Some(bytes) = bytes_at(given, slice.part, slice.place, slice.count) else {
+        return Ok(None);
+    };
+    let start = slice.place as usize;
+    let end = start + slice.count as usize;
+    let cut = match slice.part {
+        Part::Value => given.cut_value(start, end)?,
+        Part::Key => given.cut_key(start, end)?,
+        Part::HeaderKey(_) | Part::HeaderValue(_) => Bytes::copy_from_slice(alloc, bytes)?,
+    };
+    Ok(Some(cut))
+}
+
+/// Why a change of a value is not emitted: 4, the value lacks the bytes; 5, it gets too long; else 0.
+fn refusal_of(value: &[u8], place: u64, count: u64, others: &[u8]) -> u64
+    ensures { result ≡ change_refusal value.now place count others.now }
+{
+    if !has_part(value, place, count) {
+        return LACKS_BYTES;
+    }
+    let kept = value.len() - count as usize;
+    if kept as u128 + others.len() as u128 > MAX_VALUE as u128 {
+        TOO_LONG
+    } else {
+        0
+    }
+}
+
+/// Some bytes, of which those between two places are replaced by others. It fails only where memory runs out.
+fn changed(
+    alloc: Global,
+    bytes: &[u8],
+    start: usize,
+    end: usize,
+    others: &[u8],
+) -> Result<Bytes, AllocError>
+    requires order { start ≤ end }
+    requires within { end ≤ length bytes.now }
+    requires few { length bytes.now + length others.now < 2 ^ 63 }
+    ensures { IfOk result (λ changed. changed ≡ take start bytes.now ++ others.now ++ drop end bytes.now) }
+{
+    let mut list = Vec::with_capacity(alloc, bytes.len() - (end - start) + others.len())?;
+    list.extend_from_slice(&bytes[..start])?;
+    list.extend_from_slice(others)?;
+    list.extend_from_slice(&bytes[end..])?;
+    Ok(Bytes::from_vec(list)?)
+}
+
+impl Emitter {
+    /// Adds the record with another value and returns 0. On an error none was added.
+    #[inline(never)]
+    fn add_changed(
+        &mut self,
+        alloc: Global,
+        given: &RecordRef,
+        out: usize,
+        value: Bytes,
+    ) -> Result<u64, AllocError>
+        requires { length self.old < MAX_EMISSIONS }
+        ensures answer { IfOk result (λ code. code ≡ 0) }
+        ensures emitted { OnOk result (self.new ≡ self.old ++ Made (record { out = out; key = given.now.key;
+            value = Some value; headers = given.now.headers }) ∷ []) }
+        ensures err { OnErr result (self.new ≡ self.old) }
+    {
+        self.begin()?;
+        let key = given.share_key()?;
+        let headers = share_some(alloc, given.headers())?;
+        self.add(Emitted::Made(Emission {
+            out,
+            key,
+            value: Some(value),
+            headers,
+        }))
+    }
+
+    /// Emits the record's key and headers with a piece of one of its parts as the value. Returns the emit code:
+    /// the first of those of `emit_record` that holds; else 4 where the part lacks one of the bytes; else 0, and
+    /// it is emitted. It fails only where memory runs out; nothing is emitted then.
+    pub fn emit_part(
+        &mut self,
+        alloc: Global,
+        given: &RecordRef,
+        place: &Place,
+        out: u64,
+        slice: &PartSlice,
+    ) -> Result<u64, AllocError>
+        ensures answer { IfOk result (λ code. code
+            ≡ code_unless (record { given = given.now; place = place.now }) (emissions_in given.now self.old)
+            (cut_refusal (part_bytes given.now slice.now.part) slice.now.place slice.now.count)
+            (cut_record (record { given = given.now; place = place.now }) out (part_bytes given.now slice.now.part)
+            slice.now.place slice.now.count)) }
+        ensures emitted { OnOk result (emissions_in given.now self.new
+            ≡ emitted_unless (record { given = given.now; place = place.now }) (emissions_in given.now self.old)
+            (cut_refusal (part_bytes given.now slice.now.part) slice.now.place slice.now.count)
+            (cut_record (record { given = given.now; place = place.now }) out (part_bytes given.now slice.now.part)
+            slice.now.place slice.now.count)) }
+        ensures err { OnErr result (self.new ≡ self.old) }
+    {
+        let code = code_of(place, self.len(), out, text_length(&given.key()));
+        if code != 0 {
+            return Ok(code);
+        }
+        match cut(alloc, given, slice)? {
+            Some(value) => self.add_changed(alloc, given, out as usize, value),
+            None => Ok(LACKS_BYTES),
+        }
+    }
+
+    /// Emits the record with a change of its value; a null value has no bytes. Returns the emit code: the first
+    /// of those of `emit_record` that holds; else 4 where the value lacks one of the bytes that are replaced;
+    /// else 5 where it gets longer than 1,048,576 bytes; else 0, and it is emitted. It fails only where memory
+    /// runs out; nothing is emitted then.
+    pub fn emit_changed(
+        &mut self,
+        alloc: Global,
+        given: &RecordRef,
+        place: &Place,
+        out: u64,
+        change: ValueChange,
+    ) -> Result<u64, AllocError>
+        requires piece { IsPiece given.now change.bytes }
+        ensures answer { IfOk result (λ code. code
+            ≡ code_unless (record { given = given.now; place = place.now }) (emissions_in given.now self.old)
+            (change_refusal (bytes_of given.now.value) change.place change.count (piece_bytes given.now change.entry.bytes))
+            (changed_record (record { given = given.now; place = place.now }) out change.place change.count
+            (piece_bytes given.now change.entry.bytes))) }
+        ensures emitted { OnOk result (emissions_in given.now self.new
+            ≡ emitted_unless (record { given = given.now; place = place.now }) (emissions_in given.now self.old)
+            (change_refusal (bytes_of given.now.value) change.place change.count (piece_bytes given.now change.entry.bytes))
+            (changed_record (record { given = given.now; place = place.now }) out change.place change.count
+            (piece_bytes given.now change.entry.bytes))) }
+        ensures err { OnErr result (self.new ≡ self.old) }
+    {
+        let code = code_of(place, self.len(), out, text_length(&given.key()));
+        if code != 0 {
+            return Ok(code);
+        }
+        let whole = given.value();
+        let value = text(&whole);
+        let others = change.bytes.slice(given);
+        let refusal = refusal_of(value, change.place, change.count, others);
+        if refusal != 0 {
+            return Ok(refusal);
+        }
+        let start = change.place as usize;
+        let value = changed(alloc, value, start, start + change.count as usize, others)?;
+        self.add_changed(alloc, given, out as usize, value)
+    }
+}

@@ -1,4 +1,0 @@
-pub mod Parts
-pub mod Places
-pub mod Numbers
-pub mod Hashes
