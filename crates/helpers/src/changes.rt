@@ -1,6 +1,7 @@
 //! Emissions of the record with another value: a piece of one of its parts, or its value with a change.
-ghost use Rattle.std.specs.Prelude.{◌≡◌, ◌++◌, ◌∷◌, ◌+◌, ◌<◌, ◌≤◌, [], length, take, drop, IfOk, OnOk, OnErr, Some};
+ghost use Rattle.std.specs.Prelude.{◌≡◌, ◌++◌, ◌∷◌, ◌+◌, ◌<◌, ◌≤◌, ◌-◌, [], length, take, drop, IfOk, OnOk, OnErr, Some};
 ghost use Rattle.machine_spec.specs.Machine.{bytes_of, code_unless, emitted_unless, cut_refusal, cut_record, changed_bytes, change_refusal, changed_record};
+ghost use Rattle.wire_spec.specs.declared.limits.TheConstants.{MAX_VALUE};
 ghost use Rattle.machine_spec.specs.Parts.{part_bytes};
 ghost use Rattle.machine_spec.specs.Places.{cut_of};
 ghost use Rattle.helpers.specs.declared.emitted.Emitted.TheVariants.{Made};
@@ -15,7 +16,7 @@ use crate::room::has_part;
 use bytes::Bytes;
 use kafka_record::RecordRef;
 use machine_spec::{Emission, MAX_EMISSIONS, Part, Place};
-use record_parts::bytes_at;
+use record_parts::part_bytes;
 use std::alloc::{AllocError, Global};
 use wire_spec::MAX_VALUE;
 
@@ -50,15 +51,18 @@ fn cut(
 ) -> Result<Option<Bytes>, AllocError>
     ensures { IfOk result (λ cut. cut ≡ cut_of (part_bytes given.now slice.now.part) slice.now.place slice.now.count) }
 {
-    let Some(bytes) = bytes_at(given, slice.part, slice.place, slice.count) else {
+    let whole = part_bytes(given, slice.part);
+    if !has_part(whole, slice.place, slice.count) {
         return Ok(None);
-    };
+    }
     let start = slice.place as usize;
     let end = start + slice.count as usize;
     let cut = match slice.part {
         Part::Value => given.cut_value(start, end)?,
         Part::Key => given.cut_key(start, end)?,
-        Part::HeaderKey(_) | Part::HeaderValue(_) => Bytes::copy_from_slice(alloc, bytes)?,
+        Part::HeaderKey(_) | Part::HeaderValue(_) => {
+            Bytes::copy_from_slice(alloc, &whole[start..end])?
+        }
     };
     Ok(Some(cut))
 }
@@ -88,7 +92,7 @@ fn changed(
 ) -> Result<Bytes, AllocError>
     requires order { start ≤ end }
     requires within { end ≤ length bytes.now }
-    requires few { length bytes.now + length others.now < 2 ^ 63 }
+    requires few { length bytes.now - (end - start) + length others.now ≤ MAX_VALUE }
     ensures { IfOk result (λ changed. changed ≡ take start bytes.now ++ others.now ++ drop end bytes.now) }
 {
     let mut list = Vec::with_capacity(alloc, bytes.len() - (end - start) + others.len())?;
@@ -162,6 +166,7 @@ impl Emitter {
     /// of those of `emit_record` that holds; else 4 where the value lacks one of the bytes that are replaced;
     /// else 5 where it gets longer than 1,048,576 bytes; else 0, and it is emitted. It fails only where memory
     /// runs out; nothing is emitted then.
+    #[tactic(auto, using(crate::proofs::ValueChanges::change_room))]
     pub fn emit_changed(
         &mut self,
         alloc: Global,
@@ -170,16 +175,16 @@ impl Emitter {
         out: u64,
         change: ValueChange,
     ) -> Result<u64, AllocError>
-        requires piece { IsPiece given.now change.bytes }
+        requires { IsPiece given.now change.bytes }
         ensures answer { IfOk result (λ code. code
             ≡ code_unless (record { given = given.now; place = place.now }) (emissions_in given.now self.old)
-            (change_refusal (bytes_of given.now.value) change.place change.count (piece_bytes given.now change.entry.bytes))
-            (changed_record (record { given = given.now; place = place.now }) out change.place change.count
+            (change_refusal (bytes_of given.now.value) change.entry.place change.entry.count (piece_bytes given.now change.entry.bytes))
+            (changed_record (record { given = given.now; place = place.now }) out change.entry.place change.entry.count
             (piece_bytes given.now change.entry.bytes))) }
         ensures emitted { OnOk result (emissions_in given.now self.new
             ≡ emitted_unless (record { given = given.now; place = place.now }) (emissions_in given.now self.old)
-            (change_refusal (bytes_of given.now.value) change.place change.count (piece_bytes given.now change.entry.bytes))
-            (changed_record (record { given = given.now; place = place.now }) out change.place change.count
+            (change_refusal (bytes_of given.now.value) change.entry.place change.entry.count (piece_bytes given.now change.entry.bytes))
+            (changed_record (record { given = given.now; place = place.now }) out change.entry.place change.entry.count
             (piece_bytes given.now change.entry.bytes))) }
         ensures err { OnErr result (self.new ≡ self.old) }
     {

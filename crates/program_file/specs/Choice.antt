@@ -1,5 +1,5 @@
 -- The program that a user gives: an image, or a program file, and perhaps a helper table beside it.
-use Rattle.std.specs.Prelude.{ℕ, Bool, true, false, ◌==◌, if◌then◌else◌, List, [], Option, Some, None, unwrap_or}
+use Rattle.std.specs.Prelude.{ℕ, Bool, true, ◌==◌, if◌then◌else◌, List, [], Option, Some, None, unwrap_or}
 use Rattle.std.specs.Prelude.{Result, Ok, Err}
 use Rattle.machine_spec.specs.declared.helper.Table.{Table}
 use Rattle.program_file.specs.declared.{file.ProgramFile.ProgramFile, fault.FileFault.FileFault}
@@ -9,19 +9,20 @@ use Rattle.program_file.specs.Reading.{is_program_file, read_file}
 
 -- the helper table with a number, if programs run by it
 abbrev pub table_numbered : ℕ → Option Table
-table_numbered number = if number == 1 then Some Table.One else if number == 2 then Some Table.Two else None
+table_numbered number =
+    if number == 1 then Some Table.One else if number == 2 then Some Table.Two else if number == 3 then Some Table.Three
+    else None
 
--- two tables are the same
-abbrev pub is_same : Table → Table → Bool
-is_same Table.One Table.One = true
-is_same Table.One Table.Two = false
-is_same Table.Two Table.One = false
-is_same Table.Two Table.Two = true
+-- the number of a helper table
+abbrev pub number_of : Table → ℕ
+number_of Table.One = 1
+number_of Table.Two = 2
+number_of Table.Three = 3
 
 -- a table is the one that is named, where one is
 abbrev pub is_named : Option Table → Table → Bool
 is_named None table = true
-is_named (Some named) table = is_same named table
+is_named (Some named) table = number_of named == number_of table
 
 -- the program of a file, if programs run by its table and it is the one that is named
 abbrev pub run_by : Option Table → ProgramFile → Option Table → Result GivenProgram FileFault

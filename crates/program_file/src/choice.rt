@@ -31,17 +31,21 @@ fn table_numbered(number: u32) -> Option<Table>
         Some(Table::One)
     } else if number == 2 {
         Some(Table::Two)
+    } else if number == 3 {
+        Some(Table::Three)
     } else {
         None
     }
 }
 
-fn is_same(one: Table, other: Table) -> bool
-    ensures { result ≡ definitions.is_same one other }
+/// The number of a helper table.
+fn number_of(table: Table) -> u32
+    ensures { result ≡ definitions.number_of table }
 {
-    match (one, other) {
-        (Table::One, Table::One) | (Table::Two, Table::Two) => true,
-        (Table::One, Table::Two) | (Table::Two, Table::One) => false,
+    match table {
+        Table::One => 1,
+        Table::Two => 2,
+        Table::Three => 3,
     }
 }
 
@@ -50,7 +54,7 @@ fn is_named(named: Option<Table>, table: Table) -> bool
     ensures { result ≡ definitions.is_named named table }
 {
     match named {
-        Some(named) => is_same(named, table),
+        Some(named) => number_of(named) == number_of(table),
         None => true,
     }
 }
@@ -71,8 +75,7 @@ fn file_program(named: Option<Table>, file: ProgramFile) -> Result<GivenProgram,
 
 /// The program that bytes are. Those that begin as a program file are read as one, and a table that is
 /// named beside it must be its own; others are an image, of the named table or else table 1. It fails
-/// as `read` does, and as `Table` also where the file's table is not the named one, or is table 3, which
-/// no program runs by.
+/// as `read` does, and as `Table` also where the file's table is not the named one.
 pub fn given_program(
     alloc: Global,
     named: Option<Table>,

@@ -66,7 +66,7 @@ fn after_bytes(hash: u32, bytes: &[u8]) -> u32
 }
 
 /// Murmur2 of 32 bits.
-#[tactic(auto, unfolding(crate::specs::Hashes::murmur2))]
+#[tactic(auto, unfolding(machine_spec::specs::Hashes::murmur2))]
 fn murmur2(bytes: &[u8]) -> u32
     ensures { result ≡ definitions.murmur2 bytes.now }
 {
