@@ -11,6 +11,11 @@ use Rattle.kafka_record.specs.declared.fault.RecordFault.TheVariants.{Bad, Memor
 abbrev pub with_front : List Header → Option (List Header × List ℕ) → Option (List Header × List ℕ)
 with_front front read = read >>= λ x. Some (front ++ x.0, x.1)
 
+-- before the first
+pub with_none : (read : Option (List Header × List ℕ)) → with_front [] read ≡ read
+with_none (Some x) = refl
+with_none None = refl
+
 regroup : (front : List Header) (h : Header) (read : Option (List Header × List ℕ)) →
     with_front front (read >>= λ x. Some (h ∷ x.0, x.1)) ≡ with_front (front ++ h ∷ []) read
 regroup front h (Some x) = ap (λ (hs : List Header). Some (hs, x.1)) (simp append_assoc)

@@ -9,10 +9,10 @@ use Rattle.wire_spec.specs.RecordSpelling.{nullable, header, record_parts}
 use Rattle.wire_spec.specs.RecordReading.{varint_at, nullable_at, counted_at}
 use Rattle.wire_spec.proofs.Varints.{IsBytes, IsBytes-drop}
 use Rattle.wire_spec.proofs.RecordLaws.{Takes, Takes-then, varint_takes, nullable_takes, counted_take}
-use Rattle.kafka_record.specs.{declared.spans.Extent.Extent, Spans.extent_bytes}
+use Rattle.kafka_record.specs.{declared.spans.Extent.Extent, Extents.extent_bytes}
 
 -- what was taken between two places
-between : (bytes text : List ℕ) (start end : ℕ) → Takes (drop start bytes) text (drop end bytes) → start ≤ end →
+pub between : (bytes text : List ℕ) (start end : ℕ) → Takes (drop start bytes) text (drop end bytes) → start ≤ end →
     end ≤ length bytes → slice_range bytes start end ≡ text
 between bytes text start end t low high =
     let len : length text ≡ end - start =
@@ -47,21 +47,15 @@ parts_are bytes start a b c end key value n hs fits k v count counted low high =
     between bytes _ start end (Takes-then (after start) (nullable key) (after a)
     (nullable value ++ (varint (pos (length hs)) ++ flat_map header hs)) (after end) first.0 others) low high
 
--- the same, where some were read from a slice of the same bytes
-pub parts_in : (slice bytes : List ℕ) (start a b c end : ℕ) (key value : Option Extent) (n m : ℤ) (hs : List Header) →
-    slice ≡ bytes → m ≡ n → IsBytes slice →
-    nullable_at MAX_KEY (drop start slice) ≡ Some (option_map (extent_bytes slice) key, drop a slice) →
-    nullable_at MAX_VALUE (drop a slice) ≡ Some (option_map (extent_bytes slice) value, drop b slice) →
-    varint_at (drop b slice) ≡ Some (n, drop c slice) → counted_at m (drop c bytes) ≡ Some (hs, drop end bytes) →
+-- the same, where key and value are extents
+pub parts_in : (bytes : List ℕ) (start a b c end : ℕ) (key value : Option Extent) (n m : ℤ) (hs : List Header) →
+    m ≡ n → IsBytes bytes →
+    nullable_at MAX_KEY (drop start bytes) ≡ Some (option_map (extent_bytes bytes) key, drop a bytes) →
+    nullable_at MAX_VALUE (drop a bytes) ≡ Some (option_map (extent_bytes bytes) value, drop b bytes) →
+    varint_at (drop b bytes) ≡ Some (n, drop c bytes) → counted_at m (drop c bytes) ≡ Some (hs, drop end bytes) →
     start ≤ end → end ≤ length bytes →
     slice_range bytes start end
     ≡ record_parts (option_map (extent_bytes bytes) key) (option_map (extent_bytes bytes) value) hs
-parts_in slice bytes start a b c end key value n m hs same number fits k v count counted low high =
+parts_in bytes start a b c end key value n m hs number fits k v count counted low high =
     parts_are bytes start a b c end (option_map (extent_bytes bytes) key) (option_map (extent_bytes bytes) value) n hs
-    (subst IsBytes same fits)
-    (subst (λ (s : List ℕ). nullable_at MAX_KEY (drop start s) ≡ Some (option_map (extent_bytes s) key, drop a s))
-    same k)
-    (subst (λ (s : List ℕ). nullable_at MAX_VALUE (drop a s) ≡ Some (option_map (extent_bytes s) value, drop b s))
-    same v)
-    (subst (λ (s : List ℕ). varint_at (drop b s) ≡ Some (n, drop c s)) same count)
-    (subst (λ (z : ℤ). counted_at z (drop c bytes) ≡ Some (hs, drop end bytes)) number counted) low high
+    fits k v count (subst (λ (z : ℤ). counted_at z (drop c bytes) ≡ Some (hs, drop end bytes)) number counted) low high

@@ -2,27 +2,25 @@
 
 ghost use Rattle.std.specs.Prelude.{◌≡◌, ◌≤◌, length, slice_range, unwrap_or, [], IfOk, IfSome, option_map};
 ghost use Rattle.wire_spec.specs.RecordSpelling.{record_parts};
-ghost use Rattle.kafka_record.specs.Spans.{extent_bytes, IsPartWithin, spanned, IsSpanOf};
+ghost use Rattle.kafka_record.specs.Extents.{extent_bytes, IsPartWithin};
+ghost use Rattle.kafka_record.specs.Spans.{spanned, IsSpanOf};
 
+use crate::headers::HeadersRef;
 use crate::nullable::NullableBytes;
-use crate::sharing::{share_bytes, share_headers};
-use crate::spans::{Extent, Span, extent_of, share_extent};
+use crate::sharing::share_bytes;
+use crate::spans::{Extent, Span, extent_of, part_of, share_extent};
 use bytes::Bytes;
 use std::alloc::{AllocError, Global};
 use std::marker::Model;
-use wire_spec::{Headers, Record};
+use wire_spec::Record;
 
 /// What has a record's parts.
 #[derive(Drop)]
 enum Source<'a> {
     /// The record.
     Whole(&'a Record),
-    /// A buffer, the places of the parts in it, and the headers.
-    Packed {
-        bytes: &'a Bytes,
-        span: &'a Span,
-        headers: &'a Headers,
-    },
+    /// A buffer, and the places of the parts in it.
+    Packed { bytes: &'a Bytes, span: &'a Span },
 }
 
 /// A record whose parts stay where they are. A clause sees the record.
@@ -53,18 +51,14 @@ impl<'a> RecordRef<'a> {
         }
     }
 
-    /// The record of a span of a buffer, with its headers.
+    /// The record of a span of a buffer.
     #[inline(always)]
-    pub fn packed(bytes: &'a Bytes, span: &'a Span, headers: &'a Headers) -> RecordRef<'a>
-        requires { IsSpanOf bytes.now span.now headers.now }
-        ensures { result ≡ spanned bytes.now span.now headers.now }
+    pub fn packed(bytes: &'a Bytes, span: &'a Span) -> RecordRef<'a>
+        requires { IsSpanOf bytes.now span.now }
+        ensures { result ≡ spanned bytes.now span.now }
     {
         RecordRef {
-            source: Source::Packed {
-                bytes,
-                span,
-                headers,
-            },
+            source: Source::Packed { bytes, span },
         }
     }
 
@@ -75,11 +69,7 @@ impl<'a> RecordRef<'a> {
     {
         match self.source {
             Source::Whole(given) => RecordRef::of(given),
-            Source::Packed {
-                bytes,
-                span,
-                headers,
-            } => RecordRef::packed(bytes, span, headers),
+            Source::Packed { bytes, span } => RecordRef::packed(bytes, span),
         }
     }
 
@@ -101,7 +91,7 @@ impl<'a> RecordRef<'a> {
     {
         match self.source {
             Source::Whole(given) => NullableBytes::of(&given.key),
-            Source::Packed { bytes, span, .. } => bytes_at(bytes, span.key),
+            Source::Packed { bytes, span, .. } => part_of(bytes.as_slice(), span.key),
         }
     }
 
@@ -112,18 +102,20 @@ impl<'a> RecordRef<'a> {
     {
         match self.source {
             Source::Whole(given) => NullableBytes::of(&given.value),
-            Source::Packed { bytes, span, .. } => bytes_at(bytes, span.value),
+            Source::Packed { bytes, span, .. } => part_of(bytes.as_slice(), span.value),
         }
     }
 
     /// The headers.
     #[inline(always)]
-    pub fn headers(&self) -> &'a Headers
-        ensures { result.now ≡ self.now.headers }
+    pub fn headers(&self) -> HeadersRef<'a>
+        ensures { result ≡ self.now.headers }
     {
         match self.source {
-            Source::Whole(given) => &given.headers,
-            Source::Packed { headers, .. } => headers,
+            Source::Whole(given) => HeadersRef::of(&given.headers),
+            Source::Packed { bytes, span } => {
+                HeadersRef::spelled(bytes, span.headers, span.parts.end, span.count)
+            }
         }
     }
 
@@ -134,7 +126,7 @@ impl<'a> RecordRef<'a> {
     {
         match self.source {
             Source::Whole(_) => None,
-            Source::Packed { bytes, span, .. } => Some(extent_of(bytes, span.parts)),
+            Source::Packed { bytes, span, .. } => Some(extent_of(bytes.as_slice(), span.parts)),
         }
     }
 
@@ -196,20 +188,8 @@ impl<'a> RecordRef<'a> {
             timestamp_delta: self.timestamp_delta(),
             key: self.share_key()?,
             value: self.share_value()?,
-            headers: share_headers(alloc, self.headers())?,
+            headers: self.headers().to_headers(alloc)?,
         })
-    }
-}
-
-/// The bytes of an extent that may be null.
-#[inline(always)]
-fn bytes_at<'a>(bytes: &'a Bytes, extent: Option<Extent>) -> NullableBytes<'a>
-    requires { IsPartWithin (length bytes.now) extent }
-    ensures { result ≡ option_map (extent_bytes bytes.now) extent }
-{
-    match extent {
-        Some(extent) => NullableBytes::new(Some(extent_of(bytes, extent))),
-        None => NullableBytes::new(None),
     }
 }
 

@@ -3,6 +3,8 @@
 
 mod by_ref;
 mod fault;
+mod header_spans;
+mod headers;
 mod limits;
 mod nullable;
 mod reading;
@@ -15,12 +17,13 @@ mod writing;
 
 pub use by_ref::RecordRef;
 pub use fault::RecordFault;
+pub use headers::{HeaderRef, HeadersRef};
 pub use limits::fits;
 pub use nullable::NullableBytes;
 pub use reading::{one_spelling, read};
 pub use sharing::{share, share_bytes, share_headers};
 pub use sizes::{size, size_of_parts};
 pub use span_reading::read_span;
-pub use spans::{Extent, Span, SpannedRecord};
+pub use spans::{Extent, Span};
 pub use wire_spec::{Header, Headers, Record};
 pub use writing::{write, write_parts, write_spelled};

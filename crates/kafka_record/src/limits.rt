@@ -44,7 +44,7 @@ fn headers_fit(headers: &[Header]) -> bool
 }
 
 /// The headers as a slice.
-pub fn slice_of(headers: &Headers) -> &[Header]
+fn slice_of(headers: &Headers) -> &[Header]
     ensures { result.now ≡ headers.now }
 {
     &headers.list

@@ -1,4 +1,4 @@
-ghost use Rattle.std.specs.Prelude.{◌≡◌, ℕ, ◌+◌, ◌≤◌, ℤ, pos, List, ◌++◌, length, take, drop, Ok, ok_or, IfOk, FitsSigned};
+ghost use Rattle.std.specs.Prelude.{◌≡◌, ℕ, ◌+◌, ◌≤◌, ℤ, pos, List, ◌++◌, length, take, drop, Ok, ok_or, IfOk, IfErr, FitsSigned};
 ghost use Rattle.std.specs.Int.{w32};
 ghost use Rattle.std.specs.Ordering.{int_eq};
 ghost use Rattle.wire_spec.specs.declared.record.Record.{Record};
@@ -22,6 +22,7 @@ pub(crate) fn varint_from(bytes: &[u8], at: usize) -> Result<(i32, usize), Recor
     requires { at ≤ length bytes.now }
     ensures gives { AnswersAs Memory (λ x. (x.0, drop x.1 bytes.now)) result (ok_or (varint_at (drop at bytes.now)) Bad) }
     ensures within { IfOk result (λ x. (at ≤ x.1) × (x.1 ≤ length bytes.now)) }
+    ensures bad { IfErr result (λ fault. fault ≡ Bad) }
 {
     match read32(&bytes[at..]) {
         Ok((number, used)) => Ok((number, at + used)),
@@ -124,8 +125,9 @@ fn header_from(bytes: &Bytes, at: usize) -> Result<(Header, usize), RecordFault>
     Ok((Header { key, value }, at))
 }
 
+/// That many headers, and the place after them.
 #[inline(never)]
-fn headers_from(
+pub(crate) fn headers_from(
     alloc: Global,
     bytes: &Bytes,
     at: usize,
@@ -148,7 +150,7 @@ fn headers_from(
 /// That many headers, and the place after them. Most records have none, which takes no call.
 #[tactic(auto, unfolding(wire_spec::specs::RecordReading::headers_at))]
 #[inline(always)]
-pub(crate) fn counted_from(
+fn counted_from(
     alloc: Global,
     bytes: &Bytes,
     at: usize,

@@ -26,15 +26,22 @@ fn share_header(header: &Header) -> Result<Header, AllocError>
     })
 }
 
+/// A list of the same headers, in one allocation.
+pub(crate) fn share_list(alloc: Global, headers: &[Header]) -> Result<Headers, AllocError>
+    ensures { IfOk result (λ shared. shared ≡ headers.now) }
+{
+    let mut list = Vec::with_capacity(alloc, headers.len())?;
+    for header in headers {
+        list.push(share_header(header)?)?;
+    }
+    Ok(Headers { list })
+}
+
 /// Another list of the same headers, in one allocation. It fails only where memory runs out.
 pub fn share_headers(alloc: Global, headers: &Headers) -> Result<Headers, AllocError>
     ensures { IfOk result (λ shared. shared ≡ headers.now) }
 {
-    let mut list = Vec::with_capacity(alloc, headers.list.len())?;
-    for header in &headers.list {
-        list.push(share_header(header)?)?;
-    }
-    Ok(Headers { list })
+    share_list(alloc, &headers.list)
 }
 
 /// Another record with the same parts: its key, its value and its headers' parts share their

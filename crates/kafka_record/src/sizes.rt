@@ -4,12 +4,11 @@ ghost use Rattle.wire_spec.specs.Varint.{varint};
 ghost use Rattle.wire_spec.specs.RecordSpelling.{HeaderFits, RecordFits, nullable, header, record_body, record_spelling};
 ghost use Rattle.kafka_record.specs.Parts.{record_with};
 
-use crate::limits::slice_of;
+use crate::headers::{HeadersIn, HeadersRef, spelled_bytes};
 use crate::nullable::NullableBytes;
 use varint::{len32, len64};
 use wire_spec::{
-    Header, Headers, MAX_BODY_SIZE, MAX_HEADER_SIZE, MAX_HEADERS, MAX_RECORD_SIZE, MAX_VALUE,
-    Record,
+    Header, MAX_BODY_SIZE, MAX_HEADER_SIZE, MAX_HEADERS, MAX_RECORD_SIZE, MAX_VALUE, Record,
 };
 
 /// How many bytes a length takes, and what it is the length of.
@@ -52,13 +51,31 @@ fn headers_len(headers: &[Header]) -> usize
     len
 }
 
+/// How many bytes headers take.
+fn all_len(headers: &HeadersRef) -> usize
+    requires few { length headers.now ≤ MAX_HEADERS }
+    requires fit { All HeaderFits headers.now }
+    ensures size { result ≡ length (flat_map header headers.now) }
+    ensures small { result ≤ MAX_HEADER_SIZE * length headers.now }
+{
+    match headers.source {
+        HeadersIn::List(list) => headers_len(list),
+        HeadersIn::Spelled {
+            bytes,
+            start,
+            end,
+            count,
+        } => spelled_bytes(bytes.as_slice(), start, end, count).len(),
+    }
+}
+
 /// How many bytes follow the length of the record with this offset delta and these parts: what the
 /// length says.
 pub fn body_len(
     timestamp_delta: i64,
     key: &NullableBytes,
     value: &NullableBytes,
-    headers: &Headers,
+    headers: &HeadersRef,
     delta: i32,
 ) -> usize
     requires { RecordFits (record_with timestamp_delta key.now value.now headers.now) }
@@ -69,9 +86,8 @@ pub fn body_len(
     let offset = len32(delta);
     let key = nullable_len(key);
     let value = nullable_len(value);
-    let list = slice_of(headers);
-    let count = len32(list.len() as i32);
-    let headers = headers_len(list);
+    let count = len32(headers.len() as i32);
+    let headers = all_len(headers);
     1 + timestamp + offset + (key + value) + count + headers
 }
 
@@ -80,7 +96,7 @@ pub fn size_of_parts(
     timestamp_delta: i64,
     key: &NullableBytes,
     value: &NullableBytes,
-    headers: &Headers,
+    headers: &HeadersRef,
     delta: i32,
 ) -> usize
     requires { RecordFits (record_with timestamp_delta key.now value.now headers.now) }
@@ -100,7 +116,7 @@ pub fn size(record: &Record, delta: i32) -> usize
         record.timestamp_delta,
         &NullableBytes::of(&record.key),
         &NullableBytes::of(&record.value),
-        &record.headers,
+        &HeadersRef::of(&record.headers),
         delta,
     )
 }

@@ -1,23 +1,21 @@
 //! Reads records as spans of the bytes that they are in.
 
-ghost use Rattle.std.specs.Prelude.{◌≡◌, ◌+◌, ◌<◌, ◌≤◌, ◌^◌, length, drop, ok_or, option_map, IfOk};
+ghost use Rattle.std.specs.Prelude.{◌≡◌, ◌+◌, ◌<◌, ◌≤◌, ◌^◌, length, drop, ok_or, option_map, IfOk, IfErr};
 ghost use Rattle.wire_spec.specs.RecordReading.{bytes_at, nullable_bytes_at, nullable_at, body_at, record_at};
 ghost use Rattle.wire_spec.specs.Memory.{AnswersAs};
 ghost use Rattle.kafka_record.specs.declared.fault.RecordFault.TheVariants.{Bad, Memory};
-ghost use Rattle.kafka_record.specs.Spans.{extent_bytes, IsExtentWithin, IsPartWithin, spanned, IsSpanOf};
+ghost use Rattle.kafka_record.specs.Extents.{extent_bytes, IsExtentWithin, IsPartWithin};
+ghost use Rattle.kafka_record.specs.Spans.{spanned, IsSpanOf};
 
 use crate::RecordFault;
-use crate::reading::{
-    attributes_from, counted_from, delta_from, is_filled, varint_from, varlong_from,
-};
-use crate::spans::{Extent, Span, SpannedRecord};
-use bytes::Bytes;
-use std::alloc::Global;
+use crate::header_spans::counted_end_from;
+use crate::reading::{attributes_from, delta_from, is_filled, varint_from, varlong_from};
+use crate::spans::{Extent, Span};
 use wire_spec::{MAX_KEY, MAX_VALUE};
 
 /// That many bytes at a place, no more than the limit, and the place after them.
 #[inline(always)]
-fn extent_from(
+pub(crate) fn extent_from(
     bytes: &[u8],
     at: usize,
     len: i32,
@@ -27,6 +25,7 @@ fn extent_from(
     requires small { length bytes.now < 2 ^ 32 }
     ensures gives { AnswersAs Memory (λ x. (extent_bytes bytes.now x.0, drop x.1 bytes.now)) result (ok_or (bytes_at limit len (drop at bytes.now)) Bad) }
     ensures within { IfOk result (λ x. (at ≤ x.1) × (x.1 ≤ length bytes.now) × IsExtentWithin (length bytes.now) x.0) }
+    ensures bad { IfErr result (λ fault. fault ≡ Bad) }
 {
     if len < 0 {
         return Err(RecordFault::Bad);
@@ -54,6 +53,7 @@ fn nullable_extent_from(
     requires small { length bytes.now < 2 ^ 32 }
     ensures gives { AnswersAs Memory (λ x. (option_map (extent_bytes bytes.now) x.0, drop x.1 bytes.now)) result (ok_or (nullable_bytes_at limit len (drop at bytes.now)) Bad) }
     ensures within { IfOk result (λ x. (at ≤ x.1) × (x.1 ≤ length bytes.now) × IsPartWithin (length bytes.now) x.0) }
+    ensures bad { IfErr result (λ fault. fault ≡ Bad) }
 {
     if len == -1 {
         return Ok((None, at));
@@ -65,39 +65,37 @@ fn nullable_extent_from(
 /// The extent of a key or a value after its length, and the place after it.
 #[tactic(auto, unfolding(wire_spec::specs::RecordReading::nullable_at))]
 #[inline(always)]
-fn part_from(bytes: &[u8], at: usize, limit: usize) -> Result<(Option<Extent>, usize), RecordFault>
+pub(crate) fn part_from(
+    bytes: &[u8],
+    at: usize,
+    limit: usize,
+) -> Result<(Option<Extent>, usize), RecordFault>
     requires at { at ≤ length bytes.now }
     requires small { length bytes.now < 2 ^ 32 }
     ensures gives { AnswersAs Memory (λ x. (option_map (extent_bytes bytes.now) x.0, drop x.1 bytes.now)) result (ok_or (nullable_at limit (drop at bytes.now)) Bad) }
     ensures within { IfOk result (λ x. (at ≤ x.1) × (x.1 ≤ length bytes.now) × IsPartWithin (length bytes.now) x.0) }
+    ensures bad { IfErr result (λ fault. fault ≡ Bad) }
 {
     let (len, at) = varint_from(bytes, at)?;
     nullable_extent_from(bytes, at, len, limit)
 }
 
-/// What follows a record's length, and the place after it. The slice is of the same bytes.
+/// What follows a record's length, and the place after it.
 #[tactic(auto, unfolding(wire_spec::specs::RecordReading::body_at))]
 #[inline(always)]
-fn span_body_from(
-    alloc: Global,
-    bytes: &Bytes,
-    slice: &[u8],
-    at: usize,
-    delta: i32,
-) -> Result<(SpannedRecord, usize), RecordFault>
-    requires same { slice.now ≡ bytes.now }
+fn span_body_from(bytes: &[u8], at: usize, delta: i32) -> Result<(Span, usize), RecordFault>
     requires at { at ≤ length bytes.now }
     requires small { length bytes.now < 2 ^ 32 }
-    ensures gives { AnswersAs Memory (λ x. (spanned bytes.now x.0.span x.0.headers, drop x.1 bytes.now)) result (ok_or (body_at delta (drop at bytes.now)) Bad) }
-    ensures within { IfOk result (λ x. (at ≤ x.1) × (x.1 ≤ length bytes.now) × IsSpanOf bytes.now x.0.span x.0.headers) }
+    ensures gives { AnswersAs Memory (λ x. (spanned bytes.now x.0, drop x.1 bytes.now)) result (ok_or (body_at delta (drop at bytes.now)) Bad) }
+    ensures within { IfOk result (λ x. (at ≤ x.1) × (x.1 ≤ length bytes.now) × IsSpanOf bytes.now x.0) }
 {
-    let at = attributes_from(slice, at)?;
-    let (timestamp_delta, at) = varlong_from(slice, at)?;
-    let start = delta_from(slice, at, delta)?;
-    let (key, at) = part_from(slice, start, MAX_KEY)?;
-    let (value, at) = part_from(slice, at, MAX_VALUE)?;
-    let (count, at) = varint_from(slice, at)?;
-    let (headers, end) = counted_from(alloc, bytes, at, count)?;
+    let at = attributes_from(bytes, at)?;
+    let (timestamp_delta, at) = varlong_from(bytes, at)?;
+    let start = delta_from(bytes, at, delta)?;
+    let (key, at) = part_from(bytes, start, MAX_KEY)?;
+    let (value, at) = part_from(bytes, at, MAX_VALUE)?;
+    let (number, first) = varint_from(bytes, at)?;
+    let (count, end) = counted_end_from(bytes, first, number)?;
     let parts = Extent {
         start: start as u32,
         end: end as u32,
@@ -107,32 +105,27 @@ fn span_body_from(
         key,
         value,
         parts,
+        headers: first as u32,
+        count,
     };
-    Ok((SpannedRecord { span, headers }, end))
+    Ok((span, end))
 }
 
 /// The record with this offset delta that begins at a place in the bytes, as a span of them, and how many
-/// bytes it takes. The slice is of the same bytes. It fails as `read` does.
+/// bytes it takes. It fails as `read` does, and takes no memory.
 #[tactic(auto, unfolding(wire_spec::specs::RecordReading::record_at))]
 #[inline(always)]
-pub fn read_span(
-    alloc: Global,
-    bytes: &Bytes,
-    slice: &[u8],
-    at: usize,
-    delta: i32,
-) -> Result<(SpannedRecord, usize), RecordFault>
-    requires same { slice.now ≡ bytes.now }
+pub fn read_span(bytes: &[u8], at: usize, delta: i32) -> Result<(Span, usize), RecordFault>
     requires at { at ≤ length bytes.now }
     requires small { length bytes.now < 2 ^ 32 }
     // Whether there is one, and which.
-    ensures exact { AnswersAs Memory (λ x. (spanned bytes.now x.0.span x.0.headers, drop (at + x.1) bytes.now)) result (ok_or (record_at delta (drop at bytes.now)) Bad) }
-    ensures within { IfOk result (λ x. (at + x.1 ≤ length bytes.now) × IsSpanOf bytes.now x.0.span x.0.headers) }
+    ensures exact { AnswersAs Memory (λ x. (spanned bytes.now x.0, drop (at + x.1) bytes.now)) result (ok_or (record_at delta (drop at bytes.now)) Bad) }
+    ensures within { IfOk result (λ x. (at + x.1 ≤ length bytes.now) × IsSpanOf bytes.now x.0) }
 {
-    let (len, start) = varint_from(slice, at)?;
-    let (found, end) = span_body_from(alloc, bytes, slice, start, delta)?;
+    let (len, start) = varint_from(bytes, at)?;
+    let (span, end) = span_body_from(bytes, start, delta)?;
     if !is_filled(len, end - start) {
         return Err(RecordFault::Bad);
     }
-    Ok((found, end - at))
+    Ok((span, end - at))
 }

@@ -1,11 +1,11 @@
 //! Where a record's parts are in the bytes of its batch.
 
 ghost use Rattle.std.specs.Prelude.{◌≡◌, length, IfOk, option_map};
-ghost use Rattle.kafka_record.specs.Spans.{extent_bytes, IsExtentWithin, IsPartWithin};
+ghost use Rattle.kafka_record.specs.Extents.{extent_bytes, IsExtentWithin, IsPartWithin};
 
+use crate::nullable::NullableBytes;
 use bytes::Bytes;
 use std::alloc::AllocError;
-use wire_spec::Headers;
 
 /// Bytes of a buffer from a place on and before another.
 #[derive(Clone, Copy, Debug, PartialEq, Eq)]
@@ -22,22 +22,38 @@ pub struct Span {
     pub value: Option<Extent>,
     /// Where key, value and headers are, as the record spells them after its offset delta.
     pub parts: Extent,
+    /// Where the headers begin, after their number. They end where the parts do.
+    pub headers: u32,
+    /// How many headers there are.
+    pub count: u32,
 }
 
-/// A record as a span of its bytes, with its headers.
-#[derive(Drop)]
-pub struct SpannedRecord {
-    pub span: Span,
-    pub headers: Headers,
+/// Where a header's key and value are in a buffer.
+#[derive(Clone, Copy)]
+pub(crate) struct HeaderSpan {
+    pub(crate) key: Extent,
+    pub(crate) value: Option<Extent>,
 }
 
 /// The bytes of an extent.
 #[inline(always)]
-pub(crate) fn extent_of(bytes: &Bytes, extent: Extent) -> &[u8]
+pub(crate) fn extent_of(bytes: &[u8], extent: Extent) -> &[u8]
     requires { IsExtentWithin (length bytes.now) extent }
     ensures { result.now ≡ extent_bytes bytes.now extent }
 {
     &bytes[extent.start as usize..extent.end as usize]
+}
+
+/// The bytes of an extent that may be null.
+#[inline(always)]
+pub(crate) fn part_of(bytes: &[u8], extent: Option<Extent>) -> NullableBytes
+    requires { IsPartWithin (length bytes.now) extent }
+    ensures { result ≡ option_map (extent_bytes bytes.now) extent }
+{
+    match extent {
+        Some(extent) => NullableBytes::new(Some(extent_of(bytes, extent))),
+        None => NullableBytes::new(None),
+    }
 }
 
 /// Another owner of the bytes of an extent.

@@ -6,12 +6,12 @@ ghost use Rattle.kafka_record.specs.Keeps.{Keeps};
 ghost use Rattle.wire_spec.specs.declared.limits.TheConstants.{MAX_BODY_SIZE};
 ghost use Rattle.kafka_record.specs.Parts.{record_with, spelling_with};
 
-use crate::limits::slice_of;
+use crate::headers::{HeadersIn, HeadersRef, spelled_bytes};
 use crate::nullable::NullableBytes;
 use crate::sizes::body_len;
 use std::alloc::AllocError;
 use varint::{len32, len64, write32, write64};
-use wire_spec::{Header, Headers, MAX_BODY_SIZE, Record};
+use wire_spec::{Header, MAX_BODY_SIZE, Record};
 
 /// Writes a length, of less than 2^31.
 #[inline(always)]
@@ -76,15 +76,32 @@ fn put_headers(headers: &[Header], out: &mut Vec<u8>) -> Result<(), AllocError>
     Ok(())
 }
 
+/// Writes headers. Those that are spelled in one piece are copied.
+fn put_all(headers: &HeadersRef, out: &mut Vec<u8>) -> Result<(), AllocError>
+    requires { All HeaderFits headers.now }
+    ensures ok { OnOk result (out.new.items ≡ out.old.items ++ flat_map header headers.now) }
+    ensures kept { Keeps out.old.items out.new.items }
+{
+    match headers.source {
+        HeadersIn::List(list) => put_headers(list, out),
+        HeadersIn::Spelled {
+            bytes,
+            start,
+            end,
+            count,
+        } => put_bytes(spelled_bytes(bytes.as_slice(), start, end, count), out),
+    }
+}
+
 /// Writes headers after their number.
-fn put_counted(headers: &[Header], out: &mut Vec<u8>) -> Result<(), AllocError>
+fn put_counted(headers: &HeadersRef, out: &mut Vec<u8>) -> Result<(), AllocError>
     requires few { length headers.now < 2 ^ 31 }
     requires fit { All HeaderFits headers.now }
     ensures ok { OnOk result (out.new.items ≡ out.old.items ++ (varint (pos (length headers.now)) ++ flat_map header headers.now)) }
     ensures kept { Keeps out.old.items out.new.items }
 {
     put_len(headers.len(), out)?;
-    put_headers(headers, out)
+    put_all(headers, out)
 }
 
 /// Writes the attributes, a record's timestamp delta and its offset delta.
@@ -103,7 +120,7 @@ fn put_body(
     timestamp_delta: i64,
     key: &NullableBytes,
     value: &NullableBytes,
-    headers: &Headers,
+    headers: &HeadersRef,
     delta: i32,
     out: &mut Vec<u8>,
 ) -> Result<(), AllocError>
@@ -114,14 +131,14 @@ fn put_body(
     put_deltas(timestamp_delta, delta, out)?;
     put_nullable(key, out)?;
     put_nullable(value, out)?;
-    put_counted(slice_of(headers), out)
+    put_counted(headers, out)
 }
 
 fn put_record(
     timestamp_delta: i64,
     key: &NullableBytes,
     value: &NullableBytes,
-    headers: &Headers,
+    headers: &HeadersRef,
     delta: i32,
     out: &mut Vec<u8>,
 ) -> Result<(), AllocError>
@@ -139,7 +156,7 @@ pub fn write_parts(
     timestamp_delta: i64,
     key: &NullableBytes,
     value: &NullableBytes,
-    headers: &Headers,
+    headers: &HeadersRef,
     delta: i32,
     out: &mut Vec<u8>,
 ) -> Result<(), AllocError>
@@ -209,7 +226,7 @@ pub fn write(record: &Record, delta: i32, out: &mut Vec<u8>) -> Result<(), Alloc
         record.timestamp_delta,
         &NullableBytes::of(&record.key),
         &NullableBytes::of(&record.value),
-        &record.headers,
+        &HeadersRef::of(&record.headers),
         delta,
         out,
     )

@@ -2,7 +2,7 @@ use Rattle.std.proofs.Common.{◌+◌, ◌-◌, ◌≤◌, [], arith, length, ta
 use Rattle.std.proofs.lemmas.List.{length-take}
 use Rattle.bytes.proofs.Ranges.{slice_range-slice_range}
 use Rattle.kafka_record.specs.declared.spans.Extent.{Extent}
-use Rattle.kafka_record.specs.Spans.{extent_bytes, IsExtentWithin, IsPartWithin}
+use Rattle.kafka_record.specs.Extents.{extent_bytes, IsExtentWithin, IsPartWithin}
 use Rattle.kafka_record.proofs.by_ref.cut_packed.Goals as goal
 
 pub returns-in-Some : goal.returns-in-Some

@@ -1,4 +1,4 @@
-use Rattle.std.proofs.Common.{◌≡◌, ◌∙◌, ◌+◌, ◌≤◌, ◌<◌, ◌^◌, List, All, length, sym, ap, subst, arith, ℤ, pos}
+use Rattle.std.proofs.Common.{◌≡◌, ◌∙◌, ℕ, ◌+◌, ◌≤◌, ◌<◌, ◌^◌, length, ap, arith, ℤ, pos, to_z}
 use Rattle.std.specs.{Int.w32, Int.w64, List.flat_map}
 use Rattle.std.proofs.{lemmas.Int.to_z-of_z, lemmas.Int.to_z_pos, lemmas.List.Elements.All-from_recursion}
 use Rattle.wire_spec.specs.{declared.record.Header.Header, declared.limits.TheConstants.MAX_BODY_SIZE, Varint.varint}
@@ -9,34 +9,31 @@ use Rattle.kafka_record.specs.Parts.{record_with}
 use Rattle.kafka_record.proofs.Written.{length_is}
 use Rattle.kafka_record.proofs.sizes.body_len.Goals as goal
 
-pub headers_len-headers-requires-clause-fit : goal.headers_len-headers-requires-clause-fit
-headers_len-headers-requires-clause-fit c =
-    subst (λ (hs : List Header). All HeaderFits hs) (sym c.slice_of-list.ensures)
-    (All-from_recursion HeaderFits c.args.headers.now c.requires.headers)
+pub all_len-headers-requires-clause-fit : goal.all_len-headers-requires-clause-fit
+all_len-headers-requires-clause-fit c = All-from_recursion HeaderFits c.args.headers.now c.requires.headers
 
-sum_is : (c : goal.After-headers_len-headers) →
+sum_is : (c : goal.After-all_len-headers) →
     1 + c.len64-timestamp.result + c.len32-offset.result + (c.nullable_len-key.result + c.nullable_len-value.result)
-    + c.len32-count.result + c.headers_len-headers.result ≡ length
+    + c.len32-count.result + c.all_len-headers.result ≡ length
     (record_body c.args.delta (record_with c.args.timestamp_delta c.args.key.now c.args.value.now c.args.headers.now))
 sum_is c =
-    let list = c.slice_of-list.result.now in
-    let same : list ≡ c.args.headers.now = c.slice_of-list.ensures in
-    let few : length list < 2 ^ 31 = omega (arith, ap length same, c.requires.count) in
+    let list = c.args.headers.now in
+    let few : length list < 2 ^ 31 = omega (arith, c.requires.count) in
     let t = c.len64-timestamp.ensures.size
     ∙ ap (λ (z : ℤ). length (varlong z)) (to_z-of_z w64 c.args.timestamp_delta c.requires.timestamp) in
     let d = c.len32-offset.ensures.size
     ∙ ap (λ (z : ℤ). length (varint z)) (to_z-of_z w32 c.args.delta c.ranges.delta) in
-    let n = c.len32-count.ensures.size ∙ ap (λ (z : ℤ). length (varint z)) (to_z_pos w32 (length list) few)
-    ∙ ap (λ (hs : List Header). length (varint (pos (length hs)))) same in
-    let h = c.headers_len-headers.ensures.size ∙ ap (λ (hs : List Header). length (flat_map header hs)) same in
+    let n = c.len32-count.ensures.size ∙ ap (λ (z : ℤ). length (varint z))
+    (ap (λ (k : ℕ). to_z w32 k) c.len.ensures ∙ to_z_pos w32 (length list) few) in
+    let h = c.all_len-headers.ensures.size in
     length_is c.args.delta (record_with c.args.timestamp_delta c.args.key.now c.args.value.now c.args.headers.now)
     c.len64-timestamp.result c.len32-offset.result c.nullable_len-key.result
-    c.nullable_len-value.result c.len32-count.result c.headers_len-headers.result t d c.nullable_len-key.ensures
+    c.nullable_len-value.result c.len32-count.result c.all_len-headers.result t d c.nullable_len-key.ensures
     c.nullable_len-value.ensures n h
 
-small : (c : goal.After-headers_len-headers) →
+small : (c : goal.After-all_len-headers) →
     1 + c.len64-timestamp.result + c.len32-offset.result + (c.nullable_len-key.result + c.nullable_len-value.result)
-    + c.len32-count.result + c.headers_len-headers.result ≤ MAX_BODY_SIZE
+    + c.len32-count.result + c.all_len-headers.result ≤ MAX_BODY_SIZE
 small c = omega (
   arith,
   sum_is c,

@@ -10,31 +10,31 @@ pub returns-then-not-is_filled-clause-exact : goal.returns-then-not-is_filled-cl
 returns-then-not-is_filled-clause-exact c =
     let fits : FitsSigned w32 c.in_ok-len.len = search rules in
     let none : record_at c.args.delta (drop c.args.at c.args.bytes.now) ≡ None =
-    record_reads c.args.delta _ c.args.bytes.now c.args.slice.now c.args.at c.in_ok-len.start c.in_ok-found.end
-    c.in_ok-len.len _ (spanned c.args.bytes.now c.in_ok-found.found.span c.in_ok-found.found.headers) c.is_filled.result
-    (to_z-of_z w32 c.args.delta c.ranges.delta) c.requires.same (to_z-of_z w32 c.in_ok-len.len fits)
-    (read_ok _ _ c.in_ok-len.ensures.gives) (read_ok _ _ c.in_ok-found.ensures.gives) c.in_ok-found.ensures.within.0
-    c.in_ok-found.ensures.within.1 c.is_filled.ensures
+    record_reads c.args.delta _ c.args.bytes.now c.args.bytes.now c.args.at c.in_ok-len.start c.in_ok-span.end
+    c.in_ok-len.len _ (spanned c.args.bytes.now c.in_ok-span.span) c.is_filled.result
+    (to_z-of_z w32 c.args.delta c.ranges.delta) refl (to_z-of_z w32 c.in_ok-len.len fits)
+    (read_ok _ _ c.in_ok-len.ensures.gives) (read_ok _ _ c.in_ok-span.ensures.gives) c.in_ok-span.ensures.within.0
+    c.in_ok-span.ensures.within.1 c.is_filled.ensures
     ∙ rw c.if-not-is_filled.true refl in
     λ _. as_answer (record_at c.args.delta (drop c.args.at c.args.bytes.now)) None none
 
 pub returns-clause-exact : goal.returns-clause-exact
 returns-clause-exact c =
     let fits : FitsSigned w32 c.in_ok-len.len = search rules in
-    let end : c.in_ok-found.end ≡ c.args.at + (c.in_ok-found.end - c.args.at) =
-    omega (arith, c.in_ok-len.ensures.within, c.in_ok-found.ensures.within) in
+    let end : c.in_ok-span.end ≡ c.args.at + (c.in_ok-span.end - c.args.at) =
+    omega (arith, c.in_ok-len.ensures.within, c.in_ok-span.ensures.within) in
     let found : Record × List ℕ = (
-      spanned c.args.bytes.now c.in_ok-found.found.span c.in_ok-found.found.headers,
-      drop (c.args.at + (c.in_ok-found.end - c.args.at)) c.args.bytes.now,
+      spanned c.args.bytes.now c.in_ok-span.span,
+      drop (c.args.at + (c.in_ok-span.end - c.args.at)) c.args.bytes.now,
     ) in
     let read : record_at c.args.delta (drop c.args.at c.args.bytes.now) ≡ Some found =
-    record_reads c.args.delta _ c.args.bytes.now c.args.slice.now c.args.at c.in_ok-len.start c.in_ok-found.end
-    c.in_ok-len.len _ (spanned c.args.bytes.now c.in_ok-found.found.span c.in_ok-found.found.headers) c.is_filled.result
-    (to_z-of_z w32 c.args.delta c.ranges.delta) c.requires.same (to_z-of_z w32 c.in_ok-len.len fits)
-    (read_ok _ _ c.in_ok-len.ensures.gives) (read_ok _ _ c.in_ok-found.ensures.gives) c.in_ok-found.ensures.within.0
-    c.in_ok-found.ensures.within.1 c.is_filled.ensures
+    record_reads c.args.delta _ c.args.bytes.now c.args.bytes.now c.args.at c.in_ok-len.start c.in_ok-span.end
+    c.in_ok-len.len _ (spanned c.args.bytes.now c.in_ok-span.span) c.is_filled.result
+    (to_z-of_z w32 c.args.delta c.ranges.delta) refl (to_z-of_z w32 c.in_ok-len.len fits)
+    (read_ok _ _ c.in_ok-len.ensures.gives) (read_ok _ _ c.in_ok-span.ensures.gives) c.in_ok-span.ensures.within.0
+    c.in_ok-span.ensures.within.1 c.is_filled.ensures
     ∙ rw c.if-not-is_filled.false (ap (λ (k : ℕ). Some (
-      spanned c.args.bytes.now c.in_ok-found.found.span c.in_ok-found.found.headers,
+      spanned c.args.bytes.now c.in_ok-span.span,
       drop k c.args.bytes.now,
     )) end) in
     as_answer (record_at c.args.delta (drop c.args.at c.args.bytes.now)) (Some found) read
