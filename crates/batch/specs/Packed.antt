@@ -1,34 +1,20 @@
 -- Batches whose records are spans of their bytes.
-use Rattle.std.specs.Prelude.{◌≡◌, ℕ, ◌<◌, ◌≤◌, List, [], ◌∷◌, length, get_or, map, ⊤}
-use Rattle.wire_spec.specs.declared.{record.Header.Header, record.Record.Record, record.Batch.Batch}
-use Rattle.kafka_record.specs.Spans.{spanned, IsSpanOf}
+use Rattle.std.specs.Prelude.{◌≡◌, ℕ, ◌≤◌, List, [], ◌∷◌, length, map, ⊤}
+use Rattle.wire_spec.specs.declared.{record.Record.Record, record.Batch.Batch}
+use Rattle.kafka_record.specs.{declared.spans.Span.Span, Spans.spanned, Spans.IsSpanOf}
 use Rattle.wire_spec.specs.BatchSpelling.{BatchFits, batch_spelling}
 use Rattle.wire_spec.specs.BatchReading.{base_offset, leader_epoch, base_timestamp, producer_id, producer_epoch}
 use Rattle.wire_spec.specs.BatchReading.{base_sequence}
-use Rattle.batch.specs.declared.{packed.Head.Head, packed.Entry.Entry}
+use Rattle.batch.specs.declared.packed.Head.{Head}
 
--- the record of an entry, whose headers are in a list of these
-abbrev pub entry_record : List ℕ → List (List Header) → Entry → Record
-entry_record bytes lists entry = spanned bytes entry.span (get_or lists entry.headers [])
+-- the records of spans of these bytes, in order
+abbrev pub span_records : List ℕ → List Span → List Record
+span_records bytes spans = map (spanned bytes) spans
 
--- the records of entries, in order
-abbrev pub entry_records : List ℕ → List (List Header) → List Entry → List Record
-entry_records bytes lists entries = map (entry_record bytes lists) entries
-
--- these are the headers with a number in a list
-pub record IsListed (headers : List Header) (number : ℕ) (lists : List (List Header)) : Type 0 where
-  pub within : number < length lists
-  pub is : get_or lists number [] ≡ headers
-
--- an entry has its parts in these bytes, and its headers in the list
-pub record IsEntryOf (bytes : List ℕ) (lists : List (List Header)) (entry : Entry) : Type 0 where
-  pub headers : entry.headers < length lists
-  pub span : IsSpanOf bytes entry.span (get_or lists entry.headers [])
-
--- each has
-abbrev pub AreEntriesOf : List ℕ → List (List Header) → List Entry → Type 0
-AreEntriesOf bytes lists [] = ⊤
-AreEntriesOf bytes lists (entry ∷ entries) = IsEntryOf bytes lists entry × AreEntriesOf bytes lists entries
+-- each is a span of these bytes
+abbrev pub AreSpansOf : List ℕ → List Span → Type 0
+AreSpansOf bytes [] = ⊤
+AreSpansOf bytes (span ∷ spans) = IsSpanOf bytes span × AreSpansOf bytes spans
 
 -- the batch of a header and of records
 abbrev pub headed : Head → List Record → Batch

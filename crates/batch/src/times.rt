@@ -2,10 +2,10 @@ ghost use Rattle.std.specs.Prelude.{◌≡◌, ◌+ℤ◌};
 ghost use Rattle.std.specs.Ordering.{int_eq};
 ghost use Rattle.wire_spec.specs.BatchReading.{is_timestamp as timestamp_test};
 ghost use Rattle.batch.specs.Latest.{when_timestamp, latest_of};
-ghost use Rattle.batch.specs.Packed.{entry_records};
+ghost use Rattle.batch.specs.Packed.{span_records};
 
-use crate::packed::Entry;
-use wire_spec::{Batch, Headers, Record, TIMESTAMP_END};
+use kafka_record::Span;
+use wire_spec::{Batch, Record, TIMESTAMP_END};
 
 /// Whether this is a timestamp: 0 to 2^62 - 1 milliseconds.
 pub fn is_timestamp(time: i64) -> bool
@@ -49,20 +49,14 @@ pub fn latest(base: i64, records: &[Record]) -> Option<i64>
     Some(greatest)
 }
 
-/// The same of the records of entries.
-pub(crate) fn latest_of_entries(
-    base: i64,
-    bytes: &[u8],
-    headers: &[Headers],
-    entries: &[Entry],
-) -> Option<i64>
-    ensures { result ≡ latest_of base (entry_records bytes.now headers.now entries.now) }
+/// The same of the records of spans.
+pub(crate) fn latest_of_spans(base: i64, bytes: &[u8], spans: &[Span]) -> Option<i64>
+    ensures { result ≡ latest_of base (span_records bytes.now spans.now) }
 {
     let _bytes = bytes;
-    let _headers = headers;
     let mut greatest = 0;
-    for entry in entries {
-        let time = timestamp_of(base, entry.span.timestamp_delta)?;
+    for span in spans {
+        let time = timestamp_of(base, span.timestamp_delta)?;
         greatest = greatest.max(time);
     }
     Some(greatest)
