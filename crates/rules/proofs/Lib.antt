@@ -1,4 +1,5 @@
 pub mod DigitValues
+pub mod HeaderWalks
 pub mod Searches
 pub mod Quotes
 pub mod Appends

@@ -5,15 +5,16 @@ ghost use Rattle.std.specs.Str.{bytes_eq};
 ghost use Rattle.rules.specs.Meaning as definitions;
 
 use crate::rule::Part;
-use kafka_record::RecordRef;
-use wire_spec::{Header, Headers};
+use kafka_record::{HeaderRef, HeadersRef, RecordRef};
 
 /// The first of some headers with a key.
-fn first_named<'a>(headers: &'a [Header], key: &[u8]) -> Option<&'a Header>
-    ensures { option_map (λ h. h.now) result ≡ definitions.header_named key.now headers.now }
+fn first_named<'a>(headers: &HeadersRef<'a>, key: &[u8]) -> Option<HeaderRef<'a>>
+    ensures { result ≡ definitions.header_named key.now headers.now }
 {
-    for header in headers {
-        if header.key.as_slice() == key {
+    let mut rest = headers.again();
+    for _ in 0..headers.len() {
+        let header = rest.take_first()?;
+        if header.key == key {
             return Some(header);
         }
     }
@@ -21,14 +22,11 @@ fn first_named<'a>(headers: &'a [Header], key: &[u8]) -> Option<&'a Header>
 }
 
 /// The value of the first header with a key, if there is one and it is not null.
-fn header_bytes<'a>(headers: &'a [Header], key: &[u8]) -> Option<&'a [u8]>
+fn header_bytes<'a>(headers: &HeadersRef<'a>, key: &[u8]) -> Option<&'a [u8]>
     ensures { option_map (λ b. b.now) result ≡ definitions.header_bytes (definitions.header_named key.now headers.now) }
 {
     match first_named(headers, key) {
-        Some(header) => match &header.value {
-            Some(value) => Some(value.as_slice()),
-            None => None,
-        },
+        Some(header) => header.value,
         None => None,
     }
 }
@@ -40,7 +38,7 @@ pub fn part_bytes<'a>(part: &Part, given: &RecordRef<'a>) -> Option<&'a [u8]>
     match part {
         Part::Value => given.value().as_slice(),
         Part::Key => given.key().as_slice(),
-        Part::Header(key) => header_bytes(&given.headers().list, &key.bytes),
+        Part::Header(key) => header_bytes(&given.headers(), &key.bytes),
     }
 }
 
@@ -50,7 +48,7 @@ pub fn is_absent(part: &Part, given: &RecordRef) -> bool
 {
     match part {
         Part::Value | Part::Key => false,
-        Part::Header(key) => first_named(&given.headers().list, &key.bytes).is_none(),
+        Part::Header(key) => first_named(&given.headers(), &key.bytes).is_none(),
     }
 }
 

@@ -71,6 +71,6 @@ pub fn term_value(term: &Term, given: &RecordRef, place: &Place) -> Option<u64>
         Term::Offset => Some(place.offset),
         Term::Timestamp => Some(place.timestamp),
         Term::Partition => Some(place.partition as u64),
-        Term::Headers => Some(given.headers().list.len() as u64),
+        Term::Headers => Some(given.headers().len() as u64),
     }
 }
