@@ -14,12 +14,12 @@ pub(crate) fn part_of<'a>(given: &RecordRef<'a>, part: Part) -> Option<NullableB
         Part::Value => Some(given.value()),
         Part::Key => Some(given.key()),
         Part::HeaderKey(position) => {
-            let header = given.headers().list.get(position as usize)?;
-            Some(NullableBytes::new(Some(&header.key)))
+            let header = given.headers().get(position)?;
+            Some(NullableBytes::new(Some(header.key)))
         }
         Part::HeaderValue(position) => {
-            let header = given.headers().list.get(position as usize)?;
-            Some(NullableBytes::of(&header.value))
+            let header = given.headers().get(position)?;
+            Some(NullableBytes::new(header.value))
         }
     }
 }
