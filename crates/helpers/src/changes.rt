@@ -120,7 +120,7 @@ impl Emitter {
     {
         self.begin()?;
         let key = given.share_key()?;
-        let headers = share_some(alloc, given.headers())?;
+        let headers = share_some(alloc, &given.headers())?;
         self.add(Emitted::Made(Emission {
             out,
             key,

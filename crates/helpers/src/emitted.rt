@@ -2,7 +2,7 @@
 ghost use Rattle.std.specs.Prelude.{◌≡◌, ◌++◌, [], IfOk, OnOk};
 ghost use Rattle.helpers.specs.Emitted.{emission_in, emissions_in};
 
-use kafka_record::{RecordRef, share_headers};
+use kafka_record::{HeadersRef, RecordRef};
 use machine_spec::{Emission, Emissions};
 use std::alloc::{AllocError, Global};
 use std::marker::Model;
@@ -49,15 +49,15 @@ impl Model for EmittedList {
 
 /// Other owners of the headers' parts, in a list of their own. Most records have no headers.
 #[inline(always)]
-pub(crate) fn share_some(alloc: Global, headers: &Headers) -> Result<Headers, AllocError>
+pub(crate) fn share_some(alloc: Global, headers: &HeadersRef) -> Result<Headers, AllocError>
     ensures { IfOk result (λ shared. shared ≡ headers.now) }
 {
-    if headers.list.is_empty() {
+    if headers.is_empty() {
         return Ok(Headers {
             list: Vec::new(alloc),
         });
     }
-    share_headers(alloc, headers)
+    headers.to_headers(alloc)
 }
 
 impl Emitted {
@@ -72,7 +72,7 @@ impl Emitted {
                 out,
                 key: given.share_key()?,
                 value: given.share_value()?,
-                headers: share_some(alloc, given.headers())?,
+                headers: share_some(alloc, &given.headers())?,
             }),
             Emitted::Made(emission) => Ok(emission),
         }

@@ -1,9 +1,8 @@
 //! What a run sees of a record's headers.
-ghost use Rattle.std.specs.Prelude.{◌≡◌, length, slice_get, option_map};
+ghost use Rattle.std.specs.Prelude.{◌≡◌, length, slice_get};
 ghost use Rattle.machine_spec.specs.Machine.{key_bytes, value_bytes, key_answer, value_answer};
 
-use kafka_record::RecordRef;
-use wire_spec::Header;
+use kafka_record::{HeaderRef, RecordRef};
 
 /// What a program gets of a header: bytes of it, and the number that says what was found.
 #[derive(Clone, Copy, Debug)]
@@ -16,28 +15,17 @@ pub struct HeaderPart<'a> {
 pub fn header_count(given: &RecordRef) -> u64
     ensures { result ≡ length given.now.headers }
 {
-    given.headers().list.len() as u64
-}
-
-/// The header at a position, from 0, if there is one.
-fn header_at(headers: &[Header], position: u64) -> Option<&Header>
-    ensures { option_map (λ h. h.now) result ≡ slice_get headers.now position }
-{
-    if position < headers.len() as u64 {
-        Some(&headers[position as usize])
-    } else {
-        None
-    }
+    given.headers().len() as u64
 }
 
 /// The key of a header, and its length plus 1; no bytes and 0 where there is no header.
-fn key_of(header: Option<&Header>) -> HeaderPart
-    ensures bytes { result.bytes.now ≡ key_bytes (option_map (λ h. h.now) header.entry) }
-    ensures answer { result.answer ≡ key_answer (option_map (λ h. h.now) header.entry) }
+fn key_of(header: Option<HeaderRef>) -> HeaderPart
+    ensures bytes { result.bytes.now ≡ key_bytes header.entry }
+    ensures answer { result.answer ≡ key_answer header.entry }
 {
     match header {
         Some(header) => HeaderPart {
-            bytes: &header.key,
+            bytes: header.key,
             answer: header.key.len() as u64 + 1,
         },
         None => HeaderPart {
@@ -49,12 +37,12 @@ fn key_of(header: Option<&Header>) -> HeaderPart
 
 /// The value of a header, and its length plus 2, or 1 where it is null; no bytes and 0 where there is
 /// no header.
-fn value_of(header: Option<&Header>) -> HeaderPart
-    ensures bytes { result.bytes.now ≡ value_bytes (option_map (λ h. h.now) header.entry) }
-    ensures answer { result.answer ≡ value_answer (option_map (λ h. h.now) header.entry) }
+fn value_of(header: Option<HeaderRef>) -> HeaderPart
+    ensures bytes { result.bytes.now ≡ value_bytes header.entry }
+    ensures answer { result.answer ≡ value_answer header.entry }
 {
     match header {
-        Some(header) => match &header.value {
+        Some(header) => match header.value {
             Some(value) => HeaderPart {
                 bytes: value,
                 answer: value.len() as u64 + 2,
@@ -77,7 +65,7 @@ pub fn header_key<'a>(given: &RecordRef<'a>, position: u64) -> HeaderPart<'a>
     ensures bytes { result.bytes.now ≡ key_bytes (slice_get given.now.headers position) }
     ensures answer { result.answer ≡ key_answer (slice_get given.now.headers position) }
 {
-    key_of(header_at(&given.headers().list, position))
+    key_of(given.headers().get(position))
 }
 
 /// The value of the header at a position, from 0. It answers 0 where there is no such header, 1 where
@@ -86,5 +74,5 @@ pub fn header_value<'a>(given: &RecordRef<'a>, position: u64) -> HeaderPart<'a>
     ensures bytes { result.bytes.now ≡ value_bytes (slice_get given.now.headers position) }
     ensures answer { result.answer ≡ value_answer (slice_get given.now.headers position) }
 {
-    value_of(header_at(&given.headers().list, position))
+    value_of(given.headers().get(position))
 }
