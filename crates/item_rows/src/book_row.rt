@@ -9,7 +9,7 @@ ghost use Rattle.item_rows.specs.BookRows.{parts_of, AreThere};
 use crate::given::Given;
 use crate::numbers::RowNumbers;
 use crate::refs::Slot;
-use kafka_record::{NullableBytes, share_bytes, share_headers};
+use kafka_record::{HeadersRef, NullableBytes, share_bytes, share_headers};
 use log_item::LoggedBatch;
 use log_spec::{Row, RowRef};
 use machine_spec::Emission;
@@ -172,7 +172,8 @@ impl BookRow {
                 let emission = &made.list[*index];
                 let key = NullableBytes::of(&emission.key);
                 let value = NullableBytes::of(&emission.value);
-                self.numbers.with_parts(key, value, &emission.headers)
+                self.numbers
+                    .with_parts(key, value, HeadersRef::of(&emission.headers))
             }
         }
     }
@@ -195,7 +196,7 @@ impl BookRow {
         match &self.parts {
             Parts::Given { logged, index } => {
                 let given = logged.record(*index);
-                let headers = share_headers(alloc, given.headers())?;
+                let headers = given.headers().to_headers(alloc)?;
                 Ok(
                     self.numbers
                         .row(given.share_key()?, given.share_value()?, headers),

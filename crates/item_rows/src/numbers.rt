@@ -8,7 +8,7 @@ ghost use Rattle.log_spec.specs.Logs.{row_of};
 ghost use Rattle.item_rows.specs.RowParts.{row_by, whole};
 
 use bytes::Bytes;
-use kafka_record::{NullableBytes, RecordRef};
+use kafka_record::{HeadersRef, NullableBytes, RecordRef};
 use log_spec::{Row, RowRef};
 use machine_spec::Place;
 use wire_spec::Headers;
@@ -61,9 +61,9 @@ impl RowNumbers {
         &self,
         key: NullableBytes<'r>,
         value: NullableBytes<'r>,
-        headers: &'r Headers,
+        headers: HeadersRef<'r>,
     ) -> RowRef<'r>
-        ensures { result ≡ row_by self.now (record { out = 0; key = key.entry; value = value.entry; headers = headers.now }) }
+        ensures { result ≡ row_by self.now (record { out = 0; key = key.entry; value = value.entry; headers = headers.entry }) }
     {
         RowRef {
             input: self.input,

@@ -13,7 +13,7 @@ ghost use Rattle.item_rows.specs.RowRefs.{row_with, row_in, rows_by, AreWithin};
 use crate::book_row::{BookRow, Made};
 use crate::given::Given;
 use crate::numbers::RowNumbers;
-use kafka_record::NullableBytes;
+use kafka_record::{HeadersRef, NullableBytes};
 use log_item::Emitted;
 use log_spec::RowRef;
 use machine_spec::{Emission, Place};
@@ -55,7 +55,8 @@ fn made_row<'r>(made: &'r [Emission], slot: &Slot, number: usize) -> RowRef<'r>
     let emission = &made[number];
     let key = NullableBytes::of(&emission.key);
     let value = NullableBytes::of(&emission.value);
-    slot.numbers.with_parts(key, value, &emission.headers)
+    slot.numbers
+        .with_parts(key, value, HeadersRef::of(&emission.headers))
 }
 
 /// The row of a slot whose parts are the given record's.

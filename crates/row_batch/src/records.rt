@@ -8,10 +8,10 @@ ghost use Rattle.row_batch.specs.FirstRows.{PutsIfRoom, HasPut};
 
 use crate::list::RowList;
 use batch::{HEADER, MAX_BATCH, MAX_RECORDS};
-use kafka_record::{NullableBytes, size_of_parts, write_parts, write_spelled};
+use kafka_record::{HeadersRef, NullableBytes, size_of_parts, write_parts, write_spelled};
 use log_spec::RowRef;
 use std::alloc::AllocError;
-use wire_spec::{Headers, TIMESTAMP_END};
+use wire_spec::TIMESTAMP_END;
 
 /// About how many bytes a record has without its key, value and headers.
 const LIKELY_RECORD: usize = 12;
@@ -55,7 +55,7 @@ fn put_row(base: u64, row: &RowRef, place: usize, out: &mut Vec<u8>) -> Result<(
     }
     let key = NullableBytes::new(row.key);
     let value = NullableBytes::new(row.value);
-    write_parts(delta, &key, &value, row.headers, place as i32, out)
+    write_parts(delta, &key, &value, &row.headers, place as i32, out)
 }
 
 /// How many bytes a row takes as the record with this place in a batch with this base timestamp.
@@ -69,7 +69,7 @@ fn row_size(base: u64, row: &RowRef, place: usize) -> usize
     let delta = delta(base, row.timestamp);
     let key = NullableBytes::new(row.key);
     let value = NullableBytes::new(row.value);
-    size_of_parts(delta, &key, &value, row.headers, place as i32)
+    size_of_parts(delta, &key, &value, &row.headers, place as i32)
 }
 
 /// Whether a batch of this size may have no room for a row. Where it returns false, headers may still be too
@@ -156,14 +156,17 @@ fn likely_parts(row: &RowRef) -> usize {
 }
 
 /// About how many bytes headers take.
-fn likely_headers(headers: &Headers) -> usize {
+fn likely_headers(headers: &HeadersRef) -> usize {
     let mut bytes: usize = 0;
-    for header in &headers.list {
-        let value = header.value.as_ref().map_or(0, |value| value.len());
-        bytes = bytes
-            .saturating_add(LIKELY_HEADER)
-            .saturating_add(header.key.len())
-            .saturating_add(value);
+    let mut rest = headers.again();
+    for _ in 0..headers.len() {
+        if let Some(header) = rest.take_first() {
+            let value = header.value.map_or(0, |value| value.len());
+            bytes = bytes
+                .saturating_add(LIKELY_HEADER)
+                .saturating_add(header.key.len())
+                .saturating_add(value);
+        }
     }
     bytes
 }
@@ -172,7 +175,7 @@ fn likely_headers(headers: &Headers) -> usize {
 pub fn likely_size(row: &RowRef, most: usize) -> usize {
     let headers = match row.parts {
         Some(_) => 0,
-        None => likely_headers(row.headers),
+        None => likely_headers(&row.headers),
     };
     let bytes = likely_parts(row).saturating_add(headers);
     HEADER

@@ -127,8 +127,7 @@ pub fn push_row(text: &mut String, output: usize, row: &RowRef) -> Result<(), Al
     let offset = row.offset;
     let number = row.number;
     let timestamp = row.timestamp;
-    let headers = row.headers;
-    let headers = headers.list.len();
+    let headers = row.headers.len();
     write!(text, "row {output} {input} {offset} {number} {timestamp} ")?;
     push_part(text, row.key)?;
     text.push_str(" ")?;
