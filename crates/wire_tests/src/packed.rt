@@ -5,7 +5,7 @@ ghost use Rattle.kafka_record.specs.Spans.{IsSpanOf};
 use crate::batches::CLIENT_FOUR;
 use batch::{HEADER, PackedBatch, decode_packed};
 use bytes::Bytes;
-use kafka_record::{RecordRef, SpannedRecord, read_span};
+use kafka_record::{RecordRef, Span, read_span};
 use std::alloc::Global;
 use std::test::*;
 
@@ -44,7 +44,7 @@ fn is_record(record: &RecordRef, want: &Want) -> bool {
     record.timestamp_delta() == want.delta
         && record.key().as_slice() == want.key
         && record.value().as_slice() == want.value
-        && headers.list.len() == want.headers
+        && headers.len() == want.headers
 }
 
 fn are_first(batch: &PackedBatch) -> bool {
@@ -79,10 +79,10 @@ fn records_stay_in_their_bytes(rt: HostRuntime) {
 const FIRST_PARTS: &[u8] = &[2, b'k', 2, b'v', 0];
 
 /// Whether the record is the first one, and has its parts in one piece.
-fn is_spanned(bytes: &Bytes, found: &SpannedRecord) -> bool
-    requires { IsSpanOf bytes.now found.now.span found.now.headers }
+fn is_spanned(bytes: &Bytes, span: &Span) -> bool
+    requires { IsSpanOf bytes.now span.now }
 {
-    let record = RecordRef::packed(bytes, &found.span, &found.headers);
+    let record = RecordRef::packed(bytes, span);
     is_record(&record, &FIRST[0]) && record.parts() == Some(FIRST_PARTS)
 }
 
@@ -92,8 +92,8 @@ fn first_span(alloc: Global) -> Option<usize> {
     if bytes.len() < HEADER || bytes.len() > 1_000 {
         return None;
     }
-    match read_span(alloc, &bytes, bytes.as_slice(), HEADER, 0) {
-        Ok((found, used)) if is_spanned(&bytes, &found) => Some(used),
+    match read_span(bytes.as_slice(), HEADER, 0) {
+        Ok((span, used)) if is_spanned(&bytes, &span) => Some(used),
         _ => None,
     }
 }

@@ -31,16 +31,14 @@ pub(crate) fn is_row(row: &Row, want: &Seen) -> bool {
 }
 
 fn is_same(row: &RowRef, other: &RowRef) -> bool {
-    let headers = row.headers;
-    let others = other.headers;
     row.input == other.input
         && row.offset == other.offset
         && row.number == other.number
         && row.timestamp == other.timestamp
         && row.key == other.key
         && row.value == other.value
-        && headers.list.is_empty()
-        && others.list.is_empty()
+        && row.headers.is_empty()
+        && other.headers.is_empty()
 }
 
 /// Whether a book has exactly these rows from an input partition.
