@@ -1,6 +1,6 @@
 -- Keys and values of headers in bytes are bytes.
-use Rattle.std.proofs.Common.{◌≡◌, ℕ, zero, suc, ◌+◌, ◌<◌, List, [], ◌∷◌, ◌++◌, All, unwrap_or}
-use Rattle.std.proofs.Common.{length, drop, refl, arith, Option, Some, None, subst, ap, pos}
+use Rattle.std.proofs.Common.{◌≡◌, ℕ, zero, suc, List, [], ◌∷◌, ◌++◌, All, unwrap_or}
+use Rattle.std.proofs.Common.{length, drop, refl, arith, Option, Some, None, subst, pos}
 use Rattle.std.proofs.lemmas.List.{drop_at, take_at}
 use Rattle.wire_spec.specs.{declared.record.Header.Header, Varint.varint}
 use Rattle.wire_spec.specs.RecordSpelling.{string, nullable, header}

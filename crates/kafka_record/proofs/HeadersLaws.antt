@@ -1,5 +1,5 @@
 -- Headers that are read where they are spelled.
-use Rattle.std.proofs.Common.{◌≡◌, ℕ, zero, suc, ◌+◌, ◌-◌, ◌<◌, ◌≤◌, Bool, true, false, cond, List, [], ◌∷◌, ◌++◌, length}
+use Rattle.std.proofs.Common.{◌≡◌, ℕ, zero, suc, ◌-◌, ◌<◌, ◌≤◌, Bool, true, false, cond, List, [], ◌∷◌, length}
 use Rattle.std.proofs.Common.{drop, if◌then◌else◌, refl, sym, ap, subst, ◌∙◌, arith, Option, Some, None, Err, Ok, Result, ok_or, slice_range}
 use Rattle.std.specs.{List.flat_map, Str.is_utf8}
 use Rattle.std.proofs.lemmas.List.{length-append, length-drop}

@@ -1,6 +1,6 @@
 -- Headers that are taken one by one.
 use Rattle.std.proofs.Common.{◌≡◌, ◌∙◌, ℕ, zero, suc, ◌+◌, Bool, cond, List, [], ◌∷◌, drop, slice_get, Option, Some, None}
-use Rattle.std.proofs.Common.{refl, sym, ap, position}
+use Rattle.std.proofs.Common.{refl, ap, position}
 use Rattle.std.specs.List.{position_from}
 use Rattle.std.proofs.{lemmas.List.drop-drop, lemmas.Iterator.Adapters.position_from-zero}
 use Rattle.wire_spec.specs.declared.record.Header.{Header}

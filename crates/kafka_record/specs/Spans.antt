@@ -1,7 +1,7 @@
 -- Records whose parts are places in a buffer.
-use Rattle.std.specs.Prelude.{◌≡◌, ℕ, ◌≤◌, List, length, drop, slice_range, Option, Some, None, option_map, ⊤}
+use Rattle.std.specs.Prelude.{◌≡◌, ℕ, List, length, drop, option_map, ⊤}
 use Rattle.wire_spec.specs.{declared.record.Header.Header, declared.record.Record.Record, RecordSpelling.record_parts}
-use Rattle.kafka_record.specs.declared.{spans.Extent.Extent, spans.Span.Span, by_ref.Source.Source}
+use Rattle.kafka_record.specs.declared.{spans.Span.Span, by_ref.Source.Source}
 use Rattle.kafka_record.specs.declared.by_ref.Source.TheVariants as source
 use Rattle.kafka_record.specs.Extents.{extent_bytes, IsExtentWithin, IsPartWithin}
 use Rattle.kafka_record.specs.SpelledHeaders.{headers_in, AreSpelled}

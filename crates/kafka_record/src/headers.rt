@@ -1,6 +1,6 @@
 //! Headers that stay where they are.
 
-ghost use Rattle.std.specs.Prelude.{◌≡◌, ℕ, ◌<◌, ◌-◌, ◌==◌, All, length, drop, position, slice_get, slice_index, Some, IfOk};
+ghost use Rattle.std.specs.Prelude.{◌≡◌, ℕ, ◌<◌, ◌+◌, ◌-◌, ◌^◌, ◌==◌, All, length, drop, position, slice_get, slice_index, Some, IfOk, IfSome};
 ghost use Rattle.std.specs.List.{flat_map};
 ghost use Rattle.std.specs.Str.{bytes_eq};
 ghost use Rattle.wire_spec.specs.RecordSpelling.{header};
@@ -325,7 +325,8 @@ impl<'a> HeadersRef<'a> {
 
     /// The position of the first header with a key, from 0.
     pub fn position(&self, key: &[u8]) -> Option<usize>
-        ensures { result ≡ position (λ one. bytes_eq one.key key.now) self.now }
+        ensures first { result ≡ position (λ one. bytes_eq one.key key.now) self.now }
+        ensures small { IfSome result (λ place. place + 1 < 2 ^ 64) }
     {
         let mut rest = self.again();
         for place in 0..self.len() {

@@ -1,9 +1,9 @@
-use Rattle.std.proofs.Common.{◌≡◌, ◌∙◌, ℕ, ◌+◌, ◌≤◌, ◌<◌, ◌^◌, length, ap, arith, ℤ, pos, to_z}
-use Rattle.std.specs.{Int.w32, Int.w64, List.flat_map}
+use Rattle.std.proofs.Common.{◌≡◌, ◌∙◌, ℕ, ◌+◌, ◌≤◌, ◌<◌, ◌^◌, length, ap, arith, ℤ, to_z}
+use Rattle.std.specs.{Int.w32, Int.w64}
 use Rattle.std.proofs.{lemmas.Int.to_z-of_z, lemmas.Int.to_z_pos, lemmas.List.Elements.All-from_recursion}
-use Rattle.wire_spec.specs.{declared.record.Header.Header, declared.limits.TheConstants.MAX_BODY_SIZE, Varint.varint}
+use Rattle.wire_spec.specs.{declared.limits.TheConstants.MAX_BODY_SIZE, Varint.varint}
 use Rattle.wire_spec.specs.Varint.{varlong}
-use Rattle.wire_spec.specs.RecordSpelling.{HeaderFits, header, record_body}
+use Rattle.wire_spec.specs.RecordSpelling.{HeaderFits, record_body}
 use Rattle.wire_spec.proofs.RecordLaws.{length-record_body}
 use Rattle.kafka_record.specs.Parts.{record_with}
 use Rattle.kafka_record.proofs.Written.{length_is}

@@ -1,4 +1,4 @@
-use Rattle.std.proofs.Common.{◌≡◌, ◌∙◌, ◌≤◌, ap, arith, slice_get, ℕ, sym, drop, subst}
+use Rattle.std.proofs.Common.{◌≡◌, ◌∙◌, ap, arith, slice_get, ℕ}
 use Rattle.kafka_record.proofs.Walks.{taken, got}
 use Rattle.kafka_record.proofs.headers.HeadersRef.get.Goals as goal
 

@@ -1,4 +1,4 @@
-use Rattle.std.proofs.Common.{◌≡◌, ◌∙◌, ◌+◌, ℕ, Bool, false, cond, List, drop, Option, Some, rules, sym, ap, bytes_eq}
+use Rattle.std.proofs.Common.{◌≡◌, ◌∙◌, ◌+◌, Bool, false, cond, List, drop, Some, rules, sym, ap, bytes_eq}
 use Rattle.std.specs.List.{position_from}
 use Rattle.wire_spec.specs.declared.record.Header.{Header}
 use Rattle.kafka_record.proofs.Walks.{taken, at_first, position_is}
