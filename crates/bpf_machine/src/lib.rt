@@ -5,8 +5,10 @@
 //! is the reference that a faster one is held against.
 #![tactic(auto)]
 
+mod effects;
 mod machine;
 mod memory;
+mod part_effects;
 mod registers;
 mod slots;
 mod stack;
