@@ -7,10 +7,11 @@
 mod abreast;
 mod jumps;
 mod random;
+mod random_parts;
 
 use annotate::load;
 use bpf_machine::{End, Table, trace};
-use exec::{Emissions, Outcome, Place, Record, is_place, is_within_limits, run};
+use exec::{Emissions, Headers, Outcome, Place, Record, is_place, is_within_limits, run};
 use random::Random;
 use std::alloc::{AllocError, Global};
 use std::rt::Clock;
@@ -31,12 +32,21 @@ struct Counts {
     different: u64,
 }
 
+fn are_same_headers(left: &Headers, right: &Headers) -> bool {
+    left.list.len() == right.list.len()
+        && left
+            .list
+            .iter()
+            .zip(&right.list)
+            .all(|(a, b)| a.key == b.key && a.value == b.value)
+}
+
 fn are_same_emissions(left: &Emissions, right: &Emissions) -> bool {
     left.list.len() == right.list.len()
         && left.list.iter().zip(&right.list).all(|(a, b)| a.out == b.out
             && a.key == b.key
             && a.value == b.value
-            && a.headers.list.len() == b.headers.list.len())
+            && are_same_headers(&a.headers, &b.headers))
 }
 
 /// Whether the plain machine's end is the interpreter's outcome.
@@ -102,9 +112,10 @@ impl Counts {
 
     /// Runs a random program on a random record both ways.
     fn compare_any(&mut self, alloc: Global, random: &mut Random) -> Result<(), AllocError> {
-        let image = random.program(alloc)?;
+        let table = random.table();
+        let image = random.program(alloc, table)?;
         let record = random.record(alloc)?;
-        self.compare(alloc, &image, &record, random.table())
+        self.compare(alloc, &image, &record, table)
     }
 }
 

@@ -3,7 +3,8 @@
 //! A program is made of pieces that mostly load: arithmetic, loads behind a test of the length,
 //! stores with loads of what they wrote, jumps over a piece, bytes of the value with a jump on them,
 //! 64-bit immediates and calls, some of which emit bytes of the record or the stack by address, or
-//! copy a part of the record or of a header to the stack. A record has any number of headers.
+//! copy a part of the record or of a header to the stack, or look for bytes in one. A record has any
+//! number of headers.
 
 ghost use Rattle.std.specs.Prelude.{◌<◌};
 
@@ -69,7 +70,7 @@ static EDGES: [u64; 8] = [
 ];
 
 /// The bytes of a slot.
-fn slot(opcode: u8, dst: u8, src: u8, offset: i16, imm: i32) -> [u8; 8] {
+pub(crate) fn slot(opcode: u8, dst: u8, src: u8, offset: i16, imm: i32) -> [u8; 8] {
     let offset = offset.to_le_bytes();
     let imm = imm.to_le_bytes();
     [
@@ -85,7 +86,7 @@ fn slot(opcode: u8, dst: u8, src: u8, offset: i16, imm: i32) -> [u8; 8] {
 }
 
 /// Appends a slot to an image.
-fn put(image: &mut Vec<u8>, fields: [u8; 8]) -> Result<(), AllocError> {
+pub(crate) fn put(image: &mut Vec<u8>, fields: [u8; 8]) -> Result<(), AllocError> {
     image.extend_from_slice(&fields)?;
     Ok(())
 }
@@ -111,7 +112,7 @@ impl Random {
     }
 
     /// A number below a limit, or 0 where that is 0.
-    fn below(&mut self, limit: u64) -> u64
+    pub(crate) fn below(&mut self, limit: u64) -> u64
         ensures { 0 < limit → result < limit }
     {
         let number = self.number();
@@ -123,11 +124,11 @@ impl Random {
         choices.get(place).copied().unwrap_or(0)
     }
 
-    fn register(&mut self) -> u8 {
+    pub(crate) fn register(&mut self) -> u8 {
         self.byte_of(&NUMBERS)
     }
 
-    fn immediate(&mut self) -> i32 {
+    pub(crate) fn immediate(&mut self) -> i32 {
         let number = self.edge();
         ((number & 0xffff_ffff) as u32).cast_signed()
     }
@@ -341,7 +342,7 @@ impl Random {
     }
 
     /// In r2 the place at which a part begins, which need not be there.
-    fn push_place(&mut self, image: &mut Vec<u8>) -> Result<(), AllocError> {
+    pub(crate) fn push_place(&mut self, image: &mut Vec<u8>) -> Result<(), AllocError> {
         let place = match self.below(4) {
             0 => slot(0xbf, 2, self.register(), 0, 0),
             1 => slot(0xb7, 2, 0, 0, self.immediate()),
@@ -351,7 +352,7 @@ impl Random {
     }
 
     /// The address of a place of the stack.
-    fn push_address(
+    pub(crate) fn push_address(
         &mut self,
         image: &mut Vec<u8>,
         register: u8,
@@ -417,18 +418,12 @@ impl Random {
         Ok(())
     }
 
-    /// Perhaps a call, then r0 and the exit.
-    fn push_end(&mut self, image: &mut Vec<u8>) -> Result<(), AllocError> {
-        match self.below(7) {
-            0 => {
-                let number = i32::from(self.byte_of(&HELPERS));
-                self.push_call(image, number)?;
-            }
-            1 => self.push_emission(image)?,
-            2 => self.push_copy(image)?,
-            3 | 4 => self.push_header(image)?,
-            _ => {}
+    /// Perhaps calls, then r0 and the exit.
+    fn push_end(&mut self, image: &mut Vec<u8>, table: Table) -> Result<(), AllocError> {
+        if let Table::Three = table {
+            self.push_part_calls(image)?;
         }
+        self.push_last_call(image)?;
         match self.below(4) {
             0 => put(image, slot(0xb7, 0, 0, 0, 0))?,
             1 => {}
@@ -440,10 +435,25 @@ impl Random {
         put(image, slot(0x95, 0, 0, 0, 0))
     }
 
+    /// Perhaps a call of a helper of table 2.
+    fn push_last_call(&mut self, image: &mut Vec<u8>) -> Result<(), AllocError> {
+        match self.below(7) {
+            0 => {
+                let number = i32::from(self.byte_of(&HELPERS));
+                self.push_call(image, number)?;
+            }
+            1 => self.push_emission(image)?,
+            2 => self.push_copy(image)?,
+            3 | 4 => self.push_header(image)?,
+            _ => {}
+        }
+        Ok(())
+    }
+
     /// The image of a program. One of sixteen has a byte changed, and need not decode.
-    pub(crate) fn program(&mut self, alloc: Global) -> Result<Vec<u8>, AllocError> {
+    pub(crate) fn program(&mut self, alloc: Global, table: Table) -> Result<Vec<u8>, AllocError> {
         let mut image = Vec::new(alloc);
-        self.push_program(alloc, &mut image)?;
+        self.push_program(alloc, &mut image, table)?;
         if self.below(16) == 0 {
             let place = self.below(image.len() as u64) as usize;
             let byte = (self.number() & 0xff) as u8;
@@ -454,7 +464,12 @@ impl Random {
         Ok(image)
     }
 
-    fn push_program(&mut self, alloc: Global, image: &mut Vec<u8>) -> Result<(), AllocError> {
+    fn push_program(
+        &mut self,
+        alloc: Global,
+        image: &mut Vec<u8>,
+        table: Table,
+    ) -> Result<(), AllocError> {
         for register in &NUMBERS {
             self.push_wide(image, *register)?;
         }
@@ -466,7 +481,7 @@ impl Random {
                 _ => self.push_piece(image)?,
             }
         }
-        self.push_end(image)
+        self.push_end(image, table)
     }
 
     /// An operation or a move of 64 bits that needs no quotient, or a byte of the value behind a test of
@@ -510,13 +525,22 @@ impl Random {
 
     /// The image of a program most of whose instructions are operations, moves and jumps of 64 bits and
     /// loads of a byte. At times it ends early, and about one piece of thirty is any.
-    pub(crate) fn even_program(&mut self, alloc: Global) -> Result<Vec<u8>, AllocError> {
+    pub(crate) fn even_program(
+        &mut self,
+        alloc: Global,
+        table: Table,
+    ) -> Result<Vec<u8>, AllocError> {
         let mut image = Vec::new(alloc);
-        self.push_even_program(alloc, &mut image)?;
+        self.push_even_program(alloc, &mut image, table)?;
         Ok(image)
     }
 
-    fn push_even_program(&mut self, alloc: Global, image: &mut Vec<u8>) -> Result<(), AllocError> {
+    fn push_even_program(
+        &mut self,
+        alloc: Global,
+        image: &mut Vec<u8>,
+        table: Table,
+    ) -> Result<(), AllocError> {
         for register in &NUMBERS {
             let imm = self.immediate();
             put(image, slot(0xb7, *register, 0, 0, imm))?;
@@ -534,7 +558,7 @@ impl Random {
                 _ => self.push_even(image)?,
             }
         }
-        self.push_end(image)
+        self.push_end(image, table)
     }
 
     /// How many records a program is run on: 1 to 1,000, and mostly fewer than 300.
@@ -546,12 +570,12 @@ impl Random {
         }
     }
 
-    /// The helper table of a program, mostly the second.
+    /// The helper table of a program, mostly the third.
     pub(crate) fn table(&mut self) -> Table {
-        if self.below(4) == 0 {
-            Table::One
-        } else {
-            Table::Two
+        match self.below(8) {
+            0 => Table::One,
+            1..=3 => Table::Two,
+            _ => Table::Three,
         }
     }
 
@@ -563,13 +587,23 @@ impl Random {
         Bytes::copy_from_slice(alloc, &bytes)
     }
 
-    /// A null key or value, or up to 24 bytes.
-    fn text(&mut self, alloc: Global) -> Result<Option<Bytes>, AllocError> {
-        if self.below(8) == 0 {
-            return Ok(None);
+    /// So many digits.
+    fn digits(&mut self, alloc: Global, length: u64) -> Result<Bytes, AllocError> {
+        let mut bytes = Vec::new(alloc);
+        for _ in 0..length {
+            bytes.push(b'0' + self.below(10) as u8)?;
         }
+        Bytes::copy_from_slice(alloc, &bytes)
+    }
+
+    /// A null key or value, or up to 24 bytes, which may be digits.
+    fn text(&mut self, alloc: Global) -> Result<Option<Bytes>, AllocError> {
         let length = self.below(25);
-        Ok(Some(self.bytes(alloc, length)?))
+        match self.below(8) {
+            0 => Ok(None),
+            1 | 2 => Ok(Some(self.digits(alloc, length)?)),
+            _ => Ok(Some(self.bytes(alloc, length)?)),
+        }
     }
 
     /// A length, mostly a short one, and at times any up to the greatest.
