@@ -19,6 +19,8 @@ mod records;
 #[cfg(test)]
 mod refused;
 #[cfg(test)]
+mod spelled;
+#[cfg(test)]
 mod values;
 #[cfg(test)]
 mod varints;

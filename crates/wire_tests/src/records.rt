@@ -1,6 +1,8 @@
 use crate::verdicts::all_hold;
 use bytes::Bytes;
-use kafka_record::{Header, Headers, Record, RecordFault, fits, read, share, size, write};
+use kafka_record::{
+    Header, Headers, Record, RecordFault, fits, read, read_span, share, size, write,
+};
 use std::alloc::Global;
 use std::test::*;
 
@@ -37,11 +39,17 @@ fn round_trip(alloc: Global, bytes: &'static [u8], delta: i32) -> Option<Record>
     }
 }
 
+/// Whether no record begins there that is read as a span of the bytes.
+fn is_bad_span(bytes: &[u8], at: usize, delta: i32) -> bool {
+    if at > bytes.len() || bytes.len() > 1_000 {
+        return at > bytes.len();
+    }
+    matches!(read_span(bytes, at, delta), Err(RecordFault::Bad))
+}
+
 fn is_bad(alloc: Global, bytes: &'static [u8], at: usize, delta: i32) -> bool {
-    matches!(
-        read(alloc, &Bytes::from_static(bytes), at, delta),
-        Err(RecordFault::Bad)
-    )
+    let whole = read(alloc, &Bytes::from_static(bytes), at, delta);
+    matches!(whole, Err(RecordFault::Bad)) && is_bad_span(bytes, at, delta)
 }
 
 fn has_text(text: &Option<Bytes>, want: Option<&[u8]>) -> bool {
@@ -169,10 +177,14 @@ fn with_headers(alloc: Global, count: usize, start: &[u8]) -> Option<Vec<u8>> {
     Some(bytes)
 }
 
-/// Whether a record with `count` headers is read.
+/// Whether a record with `count` headers is read, as it is and as a span; `None` if these differ.
 fn is_read(alloc: Global, count: usize, start: &[u8]) -> Option<bool> {
     let bytes = Bytes::from_vec(with_headers(alloc, count, start)?).ok()?;
-    Some(read(alloc, &bytes, 0, 0).is_ok())
+    let whole = read(alloc, &bytes, 0, 0).is_ok();
+    if is_bad_span(bytes.as_slice(), 0, 0) == whole {
+        return None;
+    }
+    Some(whole)
 }
 
 #[test]
