@@ -91,7 +91,6 @@ fn is_one_nothing(registers: &[Tagged; REGISTERS], arguments: &[Argument]) -> bo
     false
 }
 
-#[tactic(auto, using(crate::proofs::ReadParts::reads_each))]
 fn is_call_nothing(registers: &[Tagged; REGISTERS], helper: Option<Helper>) -> bool
     ensures { result ≡ list_any (λ r. values.is_nothing (registers_of registers.now r))
         (flat_map argument_registers (arguments_of helper)) }

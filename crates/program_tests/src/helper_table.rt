@@ -3,7 +3,7 @@
 use machine_spec::{Argument, Helper, Instruction, Summary, Table};
 use std::test::*;
 
-static NUMBERS: [(i32, Option<Helper>); 12] = [
+static NUMBERS: [(i32, Option<Helper>); 14] = [
     (3, Some(Helper::EmitRecord)),
     (99, None),
     (-3, None),
@@ -13,23 +13,29 @@ static NUMBERS: [(i32, Option<Helper>); 12] = [
     (0, None),
     (10, Some(Helper::HeaderCount)),
     (12, Some(Helper::HeaderValue)),
-    (13, None),
+    (13, Some(Helper::PartLength)),
+    (21, Some(Helper::EmitChanged)),
+    (22, None),
     (4, Some(Helper::EmitValue)),
     (5, Some(Helper::Emit)),
 ];
 
 /// Tables, numbers and the helpers that they name there.
-static TABLES: [(Table, i32, Option<Helper>); 6] = [
+static TABLES: [(Table, i32, Option<Helper>); 10] = [
     (Table::One, 9, Some(Helper::Partition)),
     (Table::One, 10, None),
     (Table::One, 12, None),
     (Table::Two, 1, Some(Helper::LoadValue)),
     (Table::Two, 11, Some(Helper::HeaderKey)),
     (Table::Two, 13, None),
+    (Table::Two, 21, None),
+    (Table::Three, 1, Some(Helper::LoadValue)),
+    (Table::Three, 20, Some(Helper::EmitPart)),
+    (Table::Three, 22, None),
 ];
 
 /// Helpers, and an argument of each by its place.
-static ARGUMENTS: [(Helper, usize, Argument); 9] = [
+static ARGUMENTS: [(Helper, usize, Argument); 19] = [
     (Helper::EmitRecord, 0, Argument::Number(1)),
     (Helper::Partition, 0, Argument::Nothing),
     (Helper::LoadKey, 0, Argument::Room(1, 3)),
@@ -39,16 +45,35 @@ static ARGUMENTS: [(Helper, usize, Argument); 9] = [
     (Helper::Emit, 2, Argument::Bytes(4, 5)),
     (Helper::HeaderCount, 0, Argument::Nothing),
     (Helper::HeaderValue, 0, Argument::Room(1, 3)),
+    (Helper::Emit, 3, Argument::Nothing),
+    (Helper::PartLength, 0, Argument::Number(1)),
+    (Helper::LoadPart, 0, Argument::Room(1, 3)),
+    (Helper::LoadPart, 2, Argument::Number(4)),
+    (Helper::Find, 2, Argument::Bytes(3, 4)),
+    (Helper::Equals, 1, Argument::Number(2)),
+    (Helper::Decimal, 2, Argument::Number(3)),
+    (Helper::FindHeader, 0, Argument::Bytes(1, 2)),
+    (Helper::EmitPart, 3, Argument::Number(4)),
+    (Helper::EmitChanged, 3, Argument::Bytes(4, 5)),
 ];
 
 /// Helpers, their numbers and the greatest number that each answers.
-static ANSWERS: [(Helper, i32, u64); 6] = [
+static ANSWERS: [(Helper, i32, u64); 15] = [
     (Helper::EmitRecord, 3, 3),
     (Helper::Partition, 9, 63),
     (Helper::LoadKey, 2, 1),
     (Helper::HeaderCount, 10, 16),
     (Helper::HeaderKey, 11, 256),
     (Helper::HeaderValue, 12, 4098),
+    (Helper::PartLength, 13, 1_048_578),
+    (Helper::LoadPart, 14, 1),
+    (Helper::Find, 15, 1_048_577),
+    (Helper::Equals, 16, 1),
+    (Helper::Decimal, 17, 1_000_000_000_000_000_000),
+    (Helper::Hash, 18, 2_147_483_647),
+    (Helper::FindHeader, 19, 16),
+    (Helper::EmitPart, 20, 4),
+    (Helper::EmitChanged, 21, 5),
 ];
 
 fn numbers_name(rows: &[(i32, Option<Helper>)]) -> bool {

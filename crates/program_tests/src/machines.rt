@@ -14,6 +14,7 @@ mod emissions;
 mod headers;
 mod numbers;
 mod parts;
+mod record_parts;
 mod traps;
 
 /// The helper table, and how many outputs there are.

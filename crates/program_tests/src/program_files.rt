@@ -255,6 +255,7 @@ fn number_of(table: Table) -> u32 {
     match table {
         Table::One => 1,
         Table::Two => 2,
+        Table::Three => 3,
     }
 }
 
@@ -275,6 +276,7 @@ fn table_of(word: &str) -> Option<Option<Table>> {
         "-" => Some(None),
         "1" => Some(Some(Table::One)),
         "2" => Some(Some(Table::Two)),
+        "3" => Some(Some(Table::Three)),
         _ => None,
     }
 }
@@ -290,9 +292,12 @@ static GIVEN: &str = "\
 - | 2 | 2 32 0=a
 1 | 2 | G3 Table
 2 | 2 | 2 32 0=a
-- | 3 | G3 Table
+- | 3 | 3 32 0=a
 1 | 3 | G3 Table
 2 | 3 | G3 Table
+3 | 3 | 3 32 0=a
+3 | 1 | G3 Table
+3 | 2 | G3 Table
 - | 4 | G3 Table
 ";
 
