@@ -22,7 +22,7 @@ sys.path.insert(0, os.path.join(os.path.dirname(os.path.abspath(__file__)), ".."
 from compare import accepted_image, some_batch, some_bytes, some_header, some_image
 from klog_engine import Engine, Fault, Program, Transformed
 from second_broker import Record, fetched, read_batch, spell
-from second_machine import Refused, decode, run, verify
+from second_machine import HELPERS, Refused, decode, run, verify
 
 
 def verdict(image, table):
@@ -44,9 +44,32 @@ def header_image(rng):
 
 
 def some_program(rng, table):
-    if table == 2 and rng.random() < 0.5:
+    if table == 3 and rng.random() < 0.8:
+        return part_image(rng)
+    if table >= 2 and rng.random() < 0.5:
         return header_image(rng)
     return accepted_image(rng, table) if rng.random() < 0.5 else some_image(rng)
+
+
+def part_image(rng):
+    """An image that calls helpers over parts of a record, and ends with what the last call answered."""
+    slot = lambda opcode, dst, imm=0, src=0, offset=0: struct.pack("<BBhi", opcode, dst | src << 4, offset, imm)
+    some_number = lambda most: rng.choice([0, 0, 1, 2, rng.randrange(most), -1])
+    code = b""
+    for _ in range(rng.choice([1, 1, 2, 3])):
+        helper = rng.choice(range(13, 22))
+        # up to eight bytes of a part are copied to the stack, of which some are given to the helper
+        code += slot(0xBF, 1, src=10) + slot(0x07, 1, -8) + slot(0xB7, 2, rng.randrange(3)) + slot(0xB7, 3, rng.choice([1, 2, 8]))
+        code += slot(0xB7, 4, rng.randrange(6)) + slot(0x85, 0, 14)
+        numbers, pairs, rooms, _ = HELPERS[helper]
+        for register in numbers:
+            code += slot(0xB7, register, some_number(12))
+        for address, count in pairs + rooms:
+            code += slot(0xBF, address, src=10) + slot(0x07, address, -8) + slot(0xB7, count, rng.choice([1, 1, 2, 8]))
+        code += slot(0x85, 0, helper)
+        if rng.random() < 0.4:
+            code += slot(0x15, 0, 0, offset=1) + slot(0x95, 0)
+    return code + slot(0x95, 0)
 
 
 def some_headers(rng):
@@ -126,11 +149,18 @@ def compare_batches(rng, program, code):
     return 0 if isinstance(found, str) else found.records
 
 
+def program_of(engine, image, table):
+    """The program of an image, which is in a program file if its table is 3."""
+    if table < 3:
+        return Program(engine, image, table)
+    return Program(engine, b"KLOG" + struct.pack("<3I", 1, table, len(image)) + image, 0)
+
+
 def compare(rng, engine, image, table):
     """Whether an image was accepted, how many records it kept and had in batches; None where something differs."""
     code, fault = verdict(image, table)
     try:
-        with Program(engine, image, table) as program:
+        with program_of(engine, image, table) as program:
             if fault is not None:
                 print("accepted, not %s" % fault)
                 return None
@@ -206,7 +236,7 @@ def main():
     klog = sys.argv[4] if len(sys.argv) > 4 else None
     accepted = first = second = 0
     for _ in range(count):
-        table = rng.choice([1, 2])
+        table = rng.choice([1, 2] if klog else [1, 2, 3, 3])
         image = some_program(rng, table)
         answer = compare_script(rng, engine, klog, image, table) if klog else compare(rng, engine, image, table)
         if answer is None:

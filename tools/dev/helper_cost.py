@@ -38,6 +38,9 @@ KEEP = b"".join(slot(0xBF, 5 + it, it) for it in range(1, 5))
 OUTPUT = slot(0xB7, 1)
 END = slot(0xB7) + slot(0x95)
 VALUE_PART = slot(0xBF, 2, 6) + slot(0xBF, 3, 7)
+PLACE = slot(0xB7, 2)
+ONE_BYTE = stack_at(3) + slot(0xB7, 4, imm=1)
+WHOLE_VALUE = slot(0xBF, 3, 6) + slot(0xBF, 4, 7)
 KEY_AND_VALUE = slot(0xBF, 2, 8) + slot(0xBF, 3, 9) + slot(0xBF, 4, 6) + slot(0xBF, 5, 7)
 STACK_TWICE = stack_at(2) + slot(0xB7, 3, imm=512) + stack_at(4) + slot(0xB7, 5, imm=512)
 
@@ -58,20 +61,36 @@ CALLS = [
     ("header_count", b"", call(10), 8000),
     ("header_key, 512 bytes", ROOM, call(11), 3000),
     ("header_value, 512 bytes", ROOM, call(12), 3000),
+    ("part_length", OUTPUT, call(13), 8000),
+    ("load_part, 512 bytes", ROOM + slot(0xB7, 4), call(14), 2500),
+    ("find, a byte that is not in 4,096 places", OUTPUT + PLACE + ONE_BYTE, call(15), 1500),
+    ("find, 1,048,576 bytes, found at once", OUTPUT + PLACE + WHOLE_VALUE, call(15), 20),
+    ("equals, 1,048,576 bytes", OUTPUT + PLACE + WHOLE_VALUE, call(16), 200),
+    ("decimal, 18 bytes", OUTPUT + PLACE + slot(0xB7, 3, imm=18), call(17), 2500),
+    ("hash, 1,048,576 bytes", OUTPUT, call(18), 20),
+    ("header, 255 bytes, none of 16", stack_at(1) + slot(0xB7, 2, imm=255), call(19), 2500),
+    ("emit_part, 1,048,576 bytes", OUTPUT + PLACE + slot(0xB7, 3) + slot(0xB7, 4, imm=1048576), call(20), 16),
+    ("emit_changed, 1,048,576 bytes", OUTPUT + PLACE + slot(0xB7, 3) + stack_at(4) + slot(0xB7, 5), call(21), 16),
 ]
 
 # Instructions of one kind, as many as an image has room for.
 RECORDS = [
     ("helper calls of 512 bytes", ROOM + call(12)),
+    ("hashes of the value", OUTPUT + call(18)),
     ("divisions of 64 bits", slot(0x3F, 7, 7)),
     ("loads of a byte of the stack", slot(0x71, 0, 10, offset=-1)),
     ("additions", slot(0x07, 7, imm=1)),
 ]
 
 
+def file_of(image):
+    """The program file of an image of table 3."""
+    return b"KLOG" + struct.pack("<3I", 1, 3, len(image)) + image
+
+
 def taken(engine, image):
     """The least time of a run, in nanoseconds."""
-    with Program(engine, image, 2) as program:
+    with Program(engine, file_of(image), 0) as program:
         program.run(KEY, VALUE, headers=HEADERS)
         least = None
         for _ in range(RUNS):
