@@ -8,18 +8,17 @@ use explain::Coverage;
 use machine_spec::Table;
 use std::alloc::AllocError;
 
-/// What is asked of one image, with the names of its files.
+/// What is asked of one program, with the names of its files.
 #[derive(Clone, Copy)]
 pub enum ImageCall<'a> {
     /// Writes the image of a text. Fields: the text, the image.
     Assemble(&'a str, &'a str),
-    /// Verifies the program of an image and a helper table.
-    Check(&'a str, Table),
-    /// Prints the text of an image.
+    /// Verifies a program. Fields: its image or program file, the helper table that is named, if one is.
+    Check(&'a str, Option<Table>),
+    /// Prints the text of the image of a program.
     Disassemble(&'a str),
-    /// Prints what the verifier knows of a program. Fields: the image, the helper table, how much is
-    /// listed.
-    Explain(&'a str, Table, Coverage),
+    /// Prints what the verifier knows of a program. Fields: as of `Check`, and how much is listed.
+    Explain(&'a str, Option<Table>, Coverage),
 }
 
 /// A call of the program, with the names of its files.
@@ -35,9 +34,10 @@ pub enum Call<'a> {
     Recheck(&'a str),
     /// Does the commands of a script.
     Run(&'a str),
-    /// Runs a program of a helper table on record batches. The words: the image, the file of the
-    /// batches, and one file for each output partition, no two of them the same.
-    Transform(Table, &'a [String]),
+    /// Runs a program on record batches. Fields: the helper table that is named, if one is, and the words:
+    /// the image or program file, the file of the batches, and one file for each output partition, no two
+    /// of them the same.
+    Transform(Option<Table>, &'a [String]),
 }
 
 /// Why words are no call.

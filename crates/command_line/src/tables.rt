@@ -7,14 +7,14 @@ ghost use Rattle.command_line.specs.Extents as definitions;
 use explain::Coverage;
 use machine_spec::Table;
 
-/// The helper table that a word names, if there is one: else the first.
-pub(crate) fn table_of(word: Option<&str>) -> Option<Table>
+/// The helper table that a word names, if there is a word. `None` where it names no table.
+pub(crate) fn table_of(word: Option<&str>) -> Option<Option<Table>>
     ensures { result ≡ definitions.table_of (option_copied word.entry) }
 {
     match word {
-        None => Some(Table::One),
-        Some(word) if word == "1" => Some(Table::One),
-        Some(word) if word == "2" => Some(Table::Two),
+        None => Some(None),
+        Some(word) if word == "1" => Some(Some(Table::One)),
+        Some(word) if word == "2" => Some(Some(Table::Two)),
         Some(_) => None,
     }
 }
@@ -30,13 +30,16 @@ fn extent_of(word: Option<&str>) -> Option<Coverage>
     }
 }
 
-/// The helper table and how much is explained, by the words after an image. Either may be left out.
-pub(crate) fn shown_of(first: Option<&str>, second: Option<&str>) -> Option<(Table, Coverage)>
+/// The helper table that is named and how much is explained, by the words after a program. Either may be left out.
+pub(crate) fn shown_of(
+    first: Option<&str>,
+    second: Option<&str>,
+) -> Option<(Option<Table>, Coverage)>
     ensures { result ≡ definitions.shown_of (option_copied first.entry) (option_copied second.entry) }
 {
     match table_of(first) {
         Some(table) => Some((table, extent_of(second)?)),
-        None if second.is_none() => Some((Table::One, extent_of(first)?)),
+        None if second.is_none() => Some((None, extent_of(first)?)),
         None => None,
     }
 }

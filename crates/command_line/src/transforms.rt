@@ -19,12 +19,12 @@ fn has_twice(words: &[String]) -> bool
     false
 }
 
-/// The helper table of a transform, and its files: the first word may be `table2`.
-fn table_and_files(words: &[String]) -> (Table, &[String]) {
+/// The helper table that a transform names, and its files: the first word may be `table2`.
+fn table_and_files(words: &[String]) -> (Option<Table>, &[String]) {
     if !words.is_empty() && words[0].as_str() == "table2" {
-        (Table::Two, &words[1..])
+        (Some(Table::Two), &words[1..])
     } else {
-        (Table::One, words)
+        (None, words)
     }
 }
 

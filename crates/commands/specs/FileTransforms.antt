@@ -4,7 +4,9 @@ use Rattle.std.specs.Prelude.{Ok, Err, ⊤, IfSome, true, nat_lt}
 use Rattle.std.specs.List.{concat}
 use Rattle.wire_spec.specs.{declared.record.Batch.Batch, declared.fault.BatchFault.BatchFault, BatchReading.batch_at}
 use Rattle.wire_spec.specs.declared.limits.TheConstants.{TIMESTAMP_END, MAX_RECORDS}
-use Rattle.machine_spec.specs.{Image.Program, Image.program_of, declared.helper.Table.Table}
+use Rattle.machine_spec.specs.{Image.Program, declared.helper.Table.Table}
+use Rattle.program_file.specs.declared.{fault.FileFault.FileFault, choice.GivenProgram.GivenProgram}
+use Rattle.program_file.specs.Choice.{given_program, program_in}
 use Rattle.verifier_spec.specs.{Loading.IsAccepted, Loading.IsRefusedWith, declared.fault.LoadFault.LoadFault}
 use Rattle.log_spec.specs.{declared.row.Row.Row, Logs.IsRowsOf}
 use Rattle.batch.specs.Batches.{AreBatches}
@@ -18,7 +20,9 @@ use Rattle.transform.specs.declared.outlet.OutletFault.TheVariants as outlet
 use Rattle.transform.specs.Outlets as outlets
 use Rattle.transform.specs.Transforms.{log_of, output_at, records_of}
 use Rattle.script.specs.Words.{word_at}
-use Rattle.commands.specs.declared.{halts.Halt.Halt, status.Status.Status}
+use Rattle.commands.specs.declared.{given.Ungiven.Ungiven, halts.Halt.Halt, status.Status.Status}
+use Rattle.commands.specs.declared.given.Ungiven.TheVariants as ungiven
+use Rattle.commands.specs.declared.reading.Unread.TheVariants as unread
 use Rattle.commands.specs.declared.halts.Halt.TheVariants as halt
 use Rattle.commands.specs.declared.status.Status.TheVariants.{Done, Refused, Failed}
 use Rattle.commands.specs.{Files.KeepsAll, Images.first_bytes, Listings.source_of}
@@ -129,7 +133,8 @@ keeps_rows (Err (fault.Transform (stop.Output output outlet.Write))) = false
 
 -- the status by what is reported
 abbrev pub status_of_halt : Halt → Status
-status_of_halt (halt.Image _) = Refused
+status_of_halt (halt.Image _ _) = Refused
+status_of_halt (halt.Program _) = Refused
 status_of_halt (halt.Batch _) = Refused
 status_of_halt halt.Full = Refused
 status_of_halt (halt.File _) = Failed
@@ -170,23 +175,36 @@ TransformsAs program bytes outputs status files =
     ((fault : LoadFault) × IsRefusedWith program fault × (status ≡ Refused))
     ⊎ StreamsAs program bytes outputs status files
 
--- What a call does whose words name an image, a file of batches and a file for each output partition: files had these
--- bytes before and have those after, and standard input these.
-abbrev pub CallWrites : Table → List (List ℕ) → Option (List ℕ) → (List ℕ → Option (List ℕ)) →
+-- The same of what a file gives. A program file that is refused has its status, and `Failed` where memory ran out.
+abbrev pub TransformsGiven : Result GivenProgram FileFault → List ℕ → ℕ → Status → (ℕ → Option (List ℕ)) → Type 0
+TransformsGiven (Ok given) bytes outputs status files = TransformsAs (program_in given) bytes outputs status files
+TransformsGiven (Err fault) bytes outputs status files = (status ≡ Refused) ⊎ (status ≡ Failed)
+
+-- What a call does whose words name a program, a file of batches and a file for each output partition, and perhaps a
+-- helper table: files had these bytes before and have those after, and standard input these.
+abbrev pub CallWrites : Option Table → List (List ℕ) → Option (List ℕ) → (List ℕ → Option (List ℕ)) →
     (List ℕ → Option (List ℕ)) → Status → Type 0
-CallWrites table names stdin before after status = (image bytes : List ℕ) → before (word_at names 0) ≡ Some image →
+CallWrites named names stdin before after status = (image bytes : List ℕ) → before (word_at names 0) ≡ Some image →
     source_of (word_at names 1) stdin (before (word_at names 1)) ≡ Some bytes →
-    TransformsAs (program_of (first_bytes image) table) bytes (length names - 2) status
+    TransformsGiven (given_program named (first_bytes image)) bytes (length names - 2) status
     (λ output. after (word_at names (output + 2)))
 
--- however such a call ends, each output partition's file has what it had or whole batches of its rows
-abbrev pub CallLeaves : Table → List (List ℕ) → Option (List ℕ) → (List ℕ → Option (List ℕ)) →
-    (List ℕ → Option (List ℕ)) → Type 0
-CallLeaves table names stdin before after = (image bytes : List ℕ) → before (word_at names 0) ≡ Some image →
-    source_of (word_at names 1) stdin (before (word_at names 1)) ≡ Some bytes →
-    Leaves (program_of (first_bytes image) table) bytes names before after
+-- However a transform by what a file gives ends, this holds of each output partition's file, which has what it had where
+-- that is a program file that is refused.
+abbrev pub LeavesGiven : Result GivenProgram FileFault → List ℕ → List (List ℕ) →
+    (before after : List ℕ → Option (List ℕ)) → Type 0
+LeavesGiven (Ok given) bytes names before after = Leaves (program_in given) bytes names before after
+LeavesGiven (Err fault) bytes names before after = (output : ℕ) → output + 2 < length names →
+    after (word_at names (output + 2)) ≡ before (word_at names (output + 2))
 
--- the image and the file of the batches have the bytes that they had
+-- however such a call ends, each output partition's file has what it had or whole batches of its rows
+abbrev pub CallLeaves : Option Table → List (List ℕ) → Option (List ℕ) → (List ℕ → Option (List ℕ)) →
+    (List ℕ → Option (List ℕ)) → Type 0
+CallLeaves named names stdin before after = (image bytes : List ℕ) → before (word_at names 0) ≡ Some image →
+    source_of (word_at names 1) stdin (before (word_at names 1)) ≡ Some bytes →
+    LeavesGiven (given_program named (first_bytes image)) bytes names before after
+
+-- the program's file and that of the batches have the bytes that they had
 abbrev pub KeepsSources : List (List ℕ) → (before after : List ℕ → Option (List ℕ)) → Type 0
 KeepsSources names before after = (word : ℕ) → word < 2 → after (word_at names word) ≡ before (word_at names word)
 
@@ -195,18 +213,23 @@ abbrev pub KeepsOrParts : (leads : List ℕ → List ℕ) → List (List ℕ) �
     Type 0
 KeepsOrParts leads names before after = KeepsAll before after ⊎ AreApart leads names
 
--- where the image that the first word names has a program that is refused, all files have the bytes that they had
-abbrev pub KeepsIfRefused : Table → List (List ℕ) → (before after : List ℕ → Option (List ℕ)) → Type 0
-KeepsIfRefused table names before after = (image : List ℕ) (fault : LoadFault) →
-    before (word_at names 0) ≡ Some image → IsRefusedWith (program_of (first_bytes image) table) fault →
-    KeepsAll before after
+-- what a file gives is refused: as a program file, or by its image
+abbrev pub IsRefusedGiven : Result GivenProgram FileFault → Type 0
+IsRefusedGiven (Ok given) = (fault : LoadFault) × IsRefusedWith (program_in given) fault
+IsRefusedGiven (Err fault) = ⊤
+
+-- where the program that the first word names is refused, all files have the bytes that they had
+abbrev pub KeepsIfRefused : Option Table → List (List ℕ) → (before after : List ℕ → Option (List ℕ)) → Type 0
+KeepsIfRefused named names before after = (image : List ℕ) → before (word_at names 0) ≡ Some image →
+    IsRefusedGiven (given_program named (first_bytes image)) → KeepsAll before after
 
 -- ---- on the way
 
--- whether a transform ends after its image was read, or since memory ran out; else its image is refused or can't be
+-- whether a transform ends after its program was read, or since memory ran out; else its program is refused or can't be
 -- read, whose word is the first
 abbrev pub is_after_image : Halt → Bool
-is_after_image (halt.Image fault) = false
+is_after_image (halt.Image fault text) = false
+is_after_image (halt.Program fault) = false
 is_after_image (halt.Batch refusal) = true
 is_after_image halt.Full = true
 is_after_image (halt.File word) = nat_lt 0 word
@@ -214,7 +237,8 @@ is_after_image halt.Memory = true
 
 -- why an image has no program: it is refused, or it couldn't be read
 abbrev pub IsUnloaded : Program → Halt → Type 0
-IsUnloaded program (halt.Image fault) = IsRefusedWith program fault
+IsUnloaded program (halt.Image fault text) = IsRefusedWith program fault
+IsUnloaded program (halt.Program fault) = ⊥
 IsUnloaded program (halt.File word) = ⊤
 IsUnloaded program halt.Memory = ⊤
 IsUnloaded program (halt.Batch refusal) = ⊥
@@ -224,6 +248,23 @@ IsUnloaded program halt.Full = ⊥
 abbrev pub IsLoaded : Program → Result Program Halt → Type 0
 IsLoaded asked (Ok program) = (program ≡ asked) × IsAccepted asked
 IsLoaded asked (Err halted) = IsUnloaded asked halted
+
+-- why a transform ends whose file of a program gives none
+abbrev pub IsUngiven : Ungiven → Halt → Type 0
+IsUngiven (ungiven.File fault) halted = halted ≡ halt.Program fault
+IsUngiven (ungiven.Unread unread.File) halted = halted ≡ halt.File 0
+IsUngiven (ungiven.Unread unread.Memory) halted = halted ≡ halt.Memory
+
+-- The program that a file gives is loaded, or it is known why there is none.
+abbrev pub LoadsGiven : Result GivenProgram FileFault → Result Program Halt → Type 0
+LoadsGiven (Ok given) result = IsLoaded (program_in given) result
+LoadsGiven (Err fault) (Ok program) = ⊥
+LoadsGiven (Err fault) (Err (halt.Program reported)) = reported ≡ fault
+LoadsGiven (Err fault) (Err (halt.File word)) = ⊤
+LoadsGiven (Err fault) (Err halt.Memory) = ⊤
+LoadsGiven (Err fault) (Err (halt.Image reported text)) = ⊥
+LoadsGiven (Err fault) (Err (halt.Batch refusal)) = ⊥
+LoadsGiven (Err fault) (Err halt.Full) = ⊥
 
 -- an output partition before its first row, whose writer tells that it has nothing
 abbrev pub IsFresh : outlets.Outflow → Type 0

@@ -1,9 +1,9 @@
 -- What the calls on one image print of it.
-use Rattle.std.specs.Prelude.{◌≡◌, ◌⊎◌, ℕ, ◌+◌, ◌*◌, take, List, [], ◌∷◌, ◌++◌, length, Option, Result, Ok, Err, codes}
+use Rattle.std.specs.Prelude.{◌≡◌, ◌⊎◌, ℕ, take, List, [], ◌∷◌, ◌++◌, length, Option, Result, Ok, Err, codes}
 use Rattle.std.specs.Prelude.{decimal}
 use Rattle.std.specs.Io.KnownBytes.{Appends}
 use Rattle.machine_spec.specs.declared.instruction.IsaFault.TheVariants as isa
-use Rattle.machine_spec.specs.{declared.limits.TheConstants.MAX_SLOTS, Image.Program}
+use Rattle.machine_spec.specs.Image.{Program}
 use Rattle.verifier_spec.specs.{Loading.IsAccepted, Loading.IsRefusedWith, declared.fault.LoadFault.LoadFault}
 use Rattle.verifier_spec.specs.declared.fault.Check.TheVariants as check
 use Rattle.verifier_spec.specs.declared.fault.LoadFault.TheVariants.{Isa, Verify}
@@ -11,9 +11,9 @@ use Rattle.commands.specs.declared.{image.Refused.Refused, status.Status.Status}
 use Rattle.commands.specs.declared.image.Refused.TheVariants as refused
 use Rattle.commands.specs.declared.status.Status.TheVariants as exit
 
--- as much of a file as is read of an image: one byte more than the greatest image has
+-- as much of a file as is read of a program, which is more than the greatest image has
 abbrev pub first_bytes : List ℕ → List ℕ
-first_bytes bytes = take (MAX_SLOTS * 8 + 1) bytes
+first_bytes bytes = take 0x800000 bytes
 
 -- `accepted N instructions`
 abbrev pub accepted_line : ℕ → List ℕ

@@ -2,6 +2,7 @@ pub mod Appends
 pub mod Explanations
 pub mod FileTransforms
 pub mod Files
+pub mod Given
 pub mod Hosts
 pub mod Images
 pub mod Listings

@@ -3,11 +3,14 @@ use Rattle.std.specs.Prelude.{◌≡◌, ℕ, ◌+◌, ◌-◌, Bool, true, fals
 use Rattle.std.specs.Prelude.{length, take, Option, Some, None, Result, Ok, Err, ⊤, codes}
 use Rattle.std.specs.List.{AllZip, flat_map, list_any, slice_split}
 use Rattle.std.specs.{Result.is_err, Str.bytes_eq, Io.KnownBytes.Appends}
-use Rattle.machine_spec.specs.{Image.Program, declared.helper.Table.Table}
+use Rattle.machine_spec.specs.declared.helper.Table.{Table}
+use Rattle.program_file.specs.declared.{fault.FileFault.FileFault, choice.GivenProgram.GivenProgram}
+use Rattle.program_file.specs.Choice.{given_program, program_in}
 use Rattle.verifier_spec.specs.{Loading.IsAccepted, Loading.IsRefusedWith, declared.fault.LoadFault.LoadFault}
 use Rattle.script.specs.{declared.command.FileWord.TheVariants.File, declared.fault.ScriptFault.TheVariants.Syntax}
 use Rattle.script.specs.{Words.words_of, Words.word_at}
-use Rattle.commands.specs.declared.{run.Ended.Ended, stop.Stop.Stop, status.Status.Status}
+use Rattle.commands.specs.declared.{given.Ungiven.Ungiven, run.Ended.Ended, stop.Stop.Stop, status.Status.Status}
+use Rattle.commands.specs.declared.given.Ungiven.TheVariants as ungiven
 use Rattle.commands.specs.declared.status.Status.TheVariants.{Done, Refused, Failed}
 use Rattle.commands.specs.declared.stop.Stop.TheVariants as stop
 use Rattle.commands.specs.{Appends.Prints, Images.accepted_line, Sessions.IsImageIn, Stops.IsUnwritten, Stops.status_of}
@@ -23,48 +26,67 @@ without_end pieces =
 abbrev pub lines_of : List ℕ → List (List ℕ)
 lines_of list = without_end (slice_split (λ b. b == 10) list)
 
--- the helper table of a line's words: the second where `2` follows the name of a file, the first where nothing does;
--- other words name no program
-abbrev pub table_of : List (List ℕ) → Option Table
+-- the helper table that a line's words name: the second where `2` follows the name of a file, and none where nothing
+-- does; other words name no program
+abbrev pub table_of : List (List ℕ) → Option (Option Table)
 table_of words =
-    if length (word_at words 0) == 0 then None else if length words == 1 then Some Table.One else
-    if length words == 2 && bytes_eq (word_at words 1) (codes "2") then Some Table.Two else None
+    if length (word_at words 0) == 0 then None else if length words == 1 then Some None else
+    if length words == 2 && bytes_eq (word_at words 1) (codes "2") then Some (Some Table.Two) else None
 
--- a line names the file of an image, and the helper table of its program
-pub record NamesProgram (line file : List ℕ) (table : Table) : Type 0 where
+-- a line names the file of a program, and perhaps a helper table
+pub record NamesProgram (line file : List ℕ) (named : Option Table) : Type 0 where
   pub file_is : word_at (words_of line) 0 ≡ file
-  pub table_is : table_of (words_of line) ≡ Some table
+  pub table_is : table_of (words_of line) ≡ Some named
 
 -- ---- what is told of a program
 
+-- why a program is refused: as a program file, or by its image
+abbrev pub Why : Type 0
+Why = FileFault ⊎ LoadFault
+
 -- a program is accepted, and its code has so many instructions, or it is refused with its fault
-abbrev pub IsVerdict : Program → Result ℕ LoadFault → Type 0
-IsVerdict program (Ok count) = (accepted : IsAccepted program) × (length accepted.code ≡ count)
-IsVerdict program (Err fault) = IsRefusedWith program fault
+abbrev pub IsVerdict : Result GivenProgram FileFault → Result ℕ Why → Type 0
+IsVerdict (Ok given) (Ok count) = (accepted : IsAccepted (program_in given)) × (length accepted.code ≡ count)
+IsVerdict (Ok given) (Err (inr fault)) = IsRefusedWith (program_in given) fault
+IsVerdict (Ok given) (Err (inl fault)) = ⊥
+IsVerdict (Err reported) (Err (inl fault)) = fault ≡ reported
+IsVerdict (Err reported) (Err (inr fault)) = ⊥
+IsVerdict (Err reported) (Ok count) = ⊥
 
 -- what standard output gets of a verdict: `FILE accepted N instructions`; a fault goes to standard error
-abbrev pub verdict_line : List ℕ → Result ℕ LoadFault → List ℕ
+abbrev pub verdict_line : List ℕ → Result ℕ Why → List ℕ
 verdict_line file (Ok count) = file ++ (32 ∷ accepted_line count)
 verdict_line file (Err fault) = []
 
--- what was told of a line: the name of a file, the program that it has, and the verdict
+-- what was told of a line: the name of a file, the helper table that was named, if one was, the bytes of the program,
+-- and the verdict
 pub record Told : Type 0 where
   pub file : List ℕ
-  pub program : Program
-  pub verdict : Result ℕ LoadFault
+  pub named : Option Table
+  pub bytes : List ℕ
+  pub verdict : Result ℕ Why
 
 -- this was told of a line, by what is known of files
 pub record IsTold (files : List ℕ → Option (List ℕ)) (line : List ℕ) (told : Told) : Type 0 where
-  pub names : NamesProgram line told.file told.program.table
-  pub image : IsImageIn files (File told.file) told.program.image
-  pub verdict : IsVerdict told.program told.verdict
+  pub names : NamesProgram line told.file told.named
+  pub image : IsImageIn files (File told.file) told.bytes
+  pub verdict : IsVerdict (given_program told.named told.bytes) told.verdict
 
 -- What is told of a program of a file, answered by whether it is refused, or by why nothing could be told. Nothing is
 -- said of what was printed where standard output or memory failed.
-abbrev pub ImageTells : List ℕ → Program → Option (List ℕ) → Option (List ℕ) → Result Bool Stop → Type 0
-ImageTells file program before after (Ok refused) = (verdict : Result ℕ LoadFault) × IsVerdict program verdict
+abbrev pub ProgramTells : List ℕ → Result GivenProgram FileFault → Option (List ℕ) → Option (List ℕ) →
+    Result Bool Stop → Type 0
+ProgramTells file given before after (Ok refused) = (verdict : Result ℕ Why) × IsVerdict given verdict
     × (refused ≡ is_err verdict) × Appends before after (verdict_line file verdict)
-ImageTells file program before after (Err reason) = IsUnwritten reason
+ProgramTells file given before after (Err reason) = IsUnwritten reason
+
+-- How a line ends whose file gives no program: it is refused, or it can't be read. Nothing is said where standard
+-- output or memory failed.
+abbrev pub RefusesFile : List ℕ → Ungiven → Result Bool Stop → Type 0
+RefusesFile file (ungiven.File fault) (Ok refused) = refused ≡ true
+RefusesFile file (ungiven.File fault) (Err reason) = IsUnwritten reason
+RefusesFile file (ungiven.Unread cause) (Ok refused) = ⊥
+RefusesFile file (ungiven.Unread cause) (Err reason) = (reason ≡ stop.Memory) ⊎ (reason ≡ stop.File file)
 
 -- what standard output gets of all that was told
 abbrev pub told_lines : List Told → List ℕ
@@ -80,9 +102,10 @@ has_refused all = list_any (λ told. is_err told.verdict) all
 -- or memory failed.
 abbrev pub StopsAt : List ℕ → Stop → Type 0
 StopsAt line (stop.Line fault) = (table_of (words_of line) ≡ None) × (fault ≡ Syntax)
-StopsAt line (stop.File name) = (table : Table) × NamesProgram line name table
+StopsAt line (stop.File name) = (named : Option Table) × NamesProgram line name named
 StopsAt line stop.Output = ⊤
 StopsAt line stop.Memory = ⊤
+StopsAt line (stop.Program fault) = ⊥
 StopsAt line (stop.Broker fault) = ⊥
 StopsAt line (stop.Batch fault) = ⊥
 StopsAt line stop.Thread = ⊥

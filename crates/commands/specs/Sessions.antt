@@ -7,6 +7,8 @@ use Rattle.std.specs.{Io.KnownBytes.Appends, Str.bytes_eq}
 use Rattle.wire_spec.specs.declared.record.Batch.{Batch}
 use Rattle.machine_spec.specs.{Image.Program, Image.program_of, declared.helper.Table.Table}
 use Rattle.log_spec.specs.Logs.{Records, Marked, Closed, is_closed}
+use Rattle.program_file.specs.declared.{fault.FileFault.FileFault, choice.GivenProgram.GivenProgram}
+use Rattle.program_file.specs.Choice.{given_program, program_in}
 use Rattle.part_log.specs.{Parts.Log, Parts.Received, declared.fault.LogFault.LogFault}
 use Rattle.part_log.specs.declared.fault.LogFault.TheVariants.{Full, Clash, Memory, Closed as Shut}
 use Rattle.catalogue.specs.{Finders.Seen, Versions.Version}
@@ -24,6 +26,7 @@ use Rattle.report.specs.Snapshots.{Gathered, IsGathered, IsGatherFault}
 use Rattle.report.specs.{Texts.report_text, Writes.Writes}
 use Rattle.commands.specs.{declared.stop.Stop.Stop, Appends.line_of, Appends.unread_of, Appends.AppendDoes}
 use Rattle.commands.specs.{Images.first_bytes, Puts.put_batch, Stops.EndsFor, Stops.end_of_all, Stops.IsUnwritten}
+use Rattle.commands.specs.Stops.{stop_of_file}
 use Rattle.commands.specs.declared.stop.Stop.TheVariants as stop
 
 -- a broker has `inputs` input partitions, with `cells` cells each, and `outputs` output partitions
@@ -48,7 +51,7 @@ Begins None parts = ⊥
 abbrev pub IsMark : ℕ → List ℕ → ℕ → Received → Type 0
 IsMark input name version receipt = (program : Program) × IsReceiptOf input (Marked name version program) receipt
 
--- the image that a command names: the bytes in its line, or the first bytes of a file, where they are known
+-- the bytes of the program that a command names: those in its line, or the first ones of a file, where they are known
 abbrev pub IsImageIn : (List ℕ → Option (List ℕ)) → FileWord → List ℕ → Type 0
 IsImageIn files (Line bytes) image = image ≡ bytes
 IsImageIn files (File name) image = (bytes : List ℕ) → files name ≡ Some bytes → image ≡ first_bytes bytes
@@ -146,19 +149,25 @@ pub record Loads (name image : List ℕ) (table : Table) (old new : Scripted) (l
   pub learned : Learns known old new
   pub line_is : line ≡ load_line name known.number
 
--- why no image is loaded under a name: it can't be read, or the broker refuses to load it
-abbrev pub LoadFails : (List ℕ → Option (List ℕ)) → List ℕ → FileWord → Table → Stop → Type 0
-LoadFails files name source table reason = (reason ≡ unread_of source)
-    ⊎ ((image : List ℕ) × IsImageIn files source image
-    × EndsFor (λ fault. LoadIs name (program_of image table) (Err fault)) reason)
+-- the bytes that a command names are taken as a program like this
+abbrev pub TakesAs : (List ℕ → Option (List ℕ)) → FileWord → Option Table → Result GivenProgram FileFault → Type 0
+TakesAs files source named taken = (bytes : List ℕ) × IsImageIn files source bytes × (given_program named bytes ≡ taken)
 
--- What `load` does: it loads the image that it names, and prints its line.
-abbrev pub LoadDoes : (List ℕ → Option (List ℕ)) → List ℕ → FileWord → Table → Scripted → Scripted → Option (List ℕ) →
-    Option (List ℕ) → Result ⊤ Stop → Type 0
-LoadDoes files name source table old new before after result =
-    ((new ≡ old) × Refused (LoadFails files name source table) before after result)
-    ⊎ ((image : List ℕ) × (line : List ℕ) × IsImageIn files source image × Loads name image table old new line
-    × IsPrinted before after line result)
+-- why no program is loaded under a name: it can't be read, or it is a program file that is refused, or the broker
+-- refuses to load it
+abbrev pub LoadFails : (List ℕ → Option (List ℕ)) → List ℕ → FileWord → Option Table → Stop → Type 0
+LoadFails files name source named reason = (reason ≡ unread_of source)
+    ⊎ (((fault : FileFault) × TakesAs files source named (Err fault) × (reason ≡ stop_of_file fault))
+    ⊎ ((given : GivenProgram) × TakesAs files source named (Ok given)
+    × EndsFor (λ fault. LoadIs name (program_in given) (Err fault)) reason))
+
+-- What `load` does: it loads the program that it names, and prints its line.
+abbrev pub LoadDoes : (List ℕ → Option (List ℕ)) → List ℕ → FileWord → Option Table → Scripted → Scripted →
+    Option (List ℕ) → Option (List ℕ) → Result ⊤ Stop → Type 0
+LoadDoes files name source named old new before after result =
+    ((new ≡ old) × Refused (LoadFails files name source named) before after result)
+    ⊎ ((given : GivenProgram) × (line : List ℕ) × TakesAs files source named (Ok given)
+    × Loads name given.image given.table old new line × IsPrinted before after line result)
 
 -- ---- Deploy, put and close
 

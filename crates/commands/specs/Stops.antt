@@ -2,6 +2,8 @@
 use Rattle.std.specs.Prelude.{◌≡◌, ℕ, List, [], ◌∷◌, Result, Ok, Err, ⊤}
 use Rattle.wire_spec.specs.declared.fault.BatchFault.{BatchFault}
 use Rattle.wire_spec.specs.declared.fault.BatchFault.TheVariants as fault
+use Rattle.program_file.specs.declared.fault.FileFault.{FileFault}
+use Rattle.program_file.specs.declared.fault.FileFault.TheVariants as file
 use Rattle.part_log.specs.declared.fault.LogFault.TheVariants as log
 use Rattle.catalogue.specs.declared.fault.CatFault.TheVariants as catalogue
 use Rattle.out_book.specs.declared.fault.BookFault.TheVariants as book
@@ -62,6 +64,14 @@ abbrev pub end_of_all : List Ended → Result (Unit {0}) Stop
 end_of_all [] = Ok tt
 end_of_all (first ∷ others) = or_else_ends (end_of first) (end_of_all others)
 
+-- why a script ends at a program file that is refused
+abbrev pub stop_of_file : FileFault → Stop
+stop_of_file file.Short = stop.Program file.Short
+stop_of_file file.Version = stop.Program file.Version
+stop_of_file file.Table = stop.Program file.Table
+stop_of_file file.Lines = stop.Program file.Lines
+stop_of_file file.Memory = stop.Memory
+
 -- why a script ends at bytes that begin with no batch
 abbrev pub stop_of_fault : BatchFault → Stop
 stop_of_fault fault.Short = stop.Batch fault.Short
@@ -96,6 +106,7 @@ abbrev pub IsUnread : Stop → Type 0
 IsUnread (stop.File name) = ⊤
 IsUnread stop.Memory = ⊤
 IsUnread (stop.Line fault) = ⊥
+IsUnread (stop.Program fault) = ⊥
 IsUnread (stop.Broker fault) = ⊥
 IsUnread (stop.Batch fault) = ⊥
 IsUnread stop.Output = ⊥
@@ -106,6 +117,7 @@ abbrev pub IsUnwritten : Stop → Type 0
 IsUnwritten stop.Output = ⊤
 IsUnwritten stop.Memory = ⊤
 IsUnwritten (stop.Line fault) = ⊥
+IsUnwritten (stop.Program fault) = ⊥
 IsUnwritten (stop.Broker fault) = ⊥
 IsUnwritten (stop.Batch fault) = ⊥
 IsUnwritten (stop.File name) = ⊥
@@ -114,6 +126,7 @@ IsUnwritten stop.Thread = ⊥
 -- the status of a script that ends so: the line is refused, or a file, standard output, a thread or memory fails
 abbrev pub status_of : Stop → Status
 status_of (stop.Line _) = exit.Refused
+status_of (stop.Program _) = exit.Refused
 status_of (stop.Broker _) = exit.Refused
 status_of (stop.Batch _) = exit.Refused
 status_of (stop.File _) = exit.Failed

@@ -1,24 +1,26 @@
 //! Calls of the program.
 
-ghost use Rattle.std.specs.Prelude.{◌≡◌, ◌≢◌, ◌⊎◌, ℕ, List, Some, Ok, true, string_bytes};
+ghost use Rattle.std.specs.Prelude.{◌≡◌, ◌≢◌, ◌⊎◌, ℕ, List, Some, None, Ok, true, string_bytes};
 ghost use Rattle.std.specs.Io.KnownBytes.{Appends};
 ghost use Rattle.bpf_asm.specs.Images.{image_of};
 ghost use Rattle.commands.specs.declared.status.Status.TheVariants as exit;
 ghost use Rattle.commands.specs.Explanations as explanations;
 ghost use Rattle.commands.specs.Explanations.{PrintsExplanation};
 ghost use Rattle.commands.specs.Files.{KeepsAll, KeepsBut};
+ghost use Rattle.commands.specs.Given.{OfGiven};
 ghost use Rattle.commands.specs.Hosts.{PrintsOfFile};
-ghost use Rattle.machine_spec.specs.Image.{program_of};
 ghost use Rattle.machine_spec.specs.declared.instruction.IsaFault.TheVariants as isa;
 ghost use Rattle.commands.specs.Images.{first_bytes, PrintsCheck};
 ghost use Rattle.commands.specs.Texts as texts;
+ghost use Rattle.program_file.specs.Choice.{given_program, program_in};
 
 use crate::asm::{read_text, utf8, write_image};
 use crate::dis::disassembly;
 use crate::explaining::{no_code_text, refusal_text, status_of_explained};
 use crate::files::Files;
+use crate::given::{read_program, tell_ungiven};
 use crate::host::Host;
-use crate::image::{Refused, check, read_image};
+use crate::image::{Refused, check};
 use crate::listing::list;
 use crate::reading::{Unread, read_file, read_whole};
 use crate::rechecking::recheck;
@@ -31,6 +33,7 @@ use bpf_asm::{AsmFault, assemble};
 use command_line::{Call, ImageCall, Misuse, call_of};
 use explain::{Coverage, Explanation, explain_image};
 use machine_spec::{IsaFault, Table};
+use program_file::GivenProgram;
 use std::alloc::Global;
 use std::io::{Read, Write};
 use std::sync::Wait;
@@ -71,95 +74,91 @@ fn run<R: Threads + Wait + Sync, F: Files, I: Read, O: Write, E: Write>(
     }
 }
 
-/// Prints the answer of a call on an image, or says why it has none; answers the status.
+/// Prints the answer of a call on a program, or says why it has none; answers the status.
 fn print_answer<O: Write, E: Write>(
     alloc: Global,
     stdout: &mut O,
     stderr: &mut E,
+    given: &GivenProgram,
     answer: Result<String, Refused>,
 ) -> Status
     ensures { texts.PrintsAs string_bytes answer result (O.contents stdout.old) (O.contents stdout.new) }
 {
     match answer {
         Ok(text) => print_text(alloc, stdout, stderr, text.as_str()),
-        Err(refused) => tell_refused(alloc, stderr, refused),
+        Err(refused) => tell_refused(alloc, stderr, given, refused),
     }
 }
 
-/// Verifies the program of an image and a helper table and prints how many instructions it has, or says
-/// why it is refused; answers the status.
+/// Verifies a program and prints how many instructions it has, or says why it is refused; answers the
+/// status.
 #[tactic(auto, using(crate::proofs::Checked::checked))]
-fn check_bytes<O: Write, E: Write>(
+fn check_given<O: Write, E: Write>(
     alloc: Global,
     stdout: &mut O,
     stderr: &mut E,
-    image: &[u8],
-    table: Table,
+    given: &GivenProgram,
 ) -> Status
-    ensures { PrintsCheck (program_of image.now table) result (O.contents stdout.old) (O.contents stdout.new) }
+    ensures { PrintsCheck (program_in given.now) result (O.contents stdout.old) (O.contents stdout.new) }
 {
-    print_answer(alloc, stdout, stderr, check(alloc, image, table))
+    let answer = check(alloc, &given.image, given.table);
+    print_answer(alloc, stdout, stderr, given, answer)
 }
 
-/// Verifies the program of the image in a file and a helper table; answers the status.
+/// Verifies the program in a file, by the helper table that is named, if one is; answers the status.
 fn check_file<F: Files, I, O: Write, E: Write>(
     host: &mut Host<F, I, O, E>,
     name: &str,
-    table: Table,
+    named: Option<Table>,
 ) -> Status
-    ensures { PrintsOfFile F.bytes O.contents host.old host.new name.now (λ bytes. PrintsCheck (program_of (first_bytes bytes) table) result) }
+    ensures { PrintsOfFile F.bytes O.contents host.old host.new name.now (λ bytes. OfGiven (given_program named (first_bytes bytes)) (λ given. PrintsCheck (program_in given)) result) }
 {
-    match read_image(host.alloc, &mut host.files, name) {
-        Ok(image) => check_bytes(
-            host.alloc,
-            &mut host.stdout,
-            &mut host.stderr,
-            image.as_slice(),
-            table,
-        ),
-        Err(unread) => tell_unread(host.alloc, &mut host.stderr, name, unread),
+    match read_program(host.alloc, &mut host.files, name, named) {
+        Ok(given) => check_given(host.alloc, &mut host.stdout, &mut host.stderr, &given),
+        Err(ungiven) => tell_ungiven(host.alloc, &mut host.stderr, name, ungiven),
     }
 }
 
-/// Prints the text of an image, or says why it is refused; answers the status.
+/// Prints the text of a program's image, or says why it is refused; answers the status.
 #[tactic(auto, using(crate::proofs::Checked::disassembled))]
-fn disassemble_bytes<O: Write, E: Write>(
+fn disassemble_given<O: Write, E: Write>(
     alloc: Global,
     stdout: &mut O,
     stderr: &mut E,
-    image: &[u8],
+    given: &GivenProgram,
 ) -> Status
-    ensures { texts.PrintsAs (λ text. text) (texts.disassembly image.now) result (O.contents stdout.old) (O.contents stdout.new) }
+    ensures { texts.PrintsAs (λ text. text) (texts.disassembly given.now.image) result (O.contents stdout.old) (O.contents stdout.new) }
 {
-    print_answer(alloc, stdout, stderr, disassembly(alloc, image))
+    let answer = disassembly(alloc, &given.image);
+    print_answer(alloc, stdout, stderr, given, answer)
 }
 
-/// Prints the text of the image in a file, or says why it is refused; answers the status.
+/// Prints the text of the image of the program in a file, or says why it is refused; answers the status.
 fn disassemble_file<F: Files, I, O: Write, E: Write>(
     host: &mut Host<F, I, O, E>,
     name: &str,
 ) -> Status
-    ensures { PrintsOfFile F.bytes O.contents host.old host.new name.now (λ bytes. texts.PrintsAs (λ text. text) (texts.disassembly (first_bytes bytes)) result) }
+    ensures { PrintsOfFile F.bytes O.contents host.old host.new name.now (λ bytes. OfGiven (given_program None (first_bytes bytes)) (λ given. texts.PrintsAs (λ text. text) (texts.disassembly given.image)) result) }
 {
-    match read_image(host.alloc, &mut host.files, name) {
-        Ok(image) => disassemble_bytes(
-            host.alloc,
-            &mut host.stdout,
-            &mut host.stderr,
-            image.as_slice(),
-        ),
-        Err(unread) => tell_unread(host.alloc, &mut host.stderr, name, unread),
+    match read_program(host.alloc, &mut host.files, name, None) {
+        Ok(given) => disassemble_given(host.alloc, &mut host.stdout, &mut host.stderr, &given),
+        Err(ungiven) => tell_ungiven(host.alloc, &mut host.stderr, name, ungiven),
     }
 }
 
 /// Says why a program is refused, if it is, and answers the status.
-fn tell_refusal<E: Write>(alloc: Global, stderr: &mut E, explanation: &Explanation) -> Status
+fn tell_refusal<E: Write>(
+    alloc: Global,
+    stderr: &mut E,
+    given: &GivenProgram,
+    explanation: &Explanation,
+) -> Status
     ensures { (result ≡ explanations.status_of_explained explanation.now) ⊎ (result ≡ exit.Failed) }
 {
     match &explanation.refusal {
         Some(refusal) => {
             let status = status_of_explained(explanation);
-            tell_text(stderr, refusal_text(alloc, refusal), status)
+            tell_text(stderr, refusal_text(alloc, given, refusal), status)
         }
         None => status_of_explained(explanation),
     }
@@ -171,6 +170,7 @@ fn print_explanation<O: Write, E: Write>(
     alloc: Global,
     stdout: &mut O,
     stderr: &mut E,
+    given: &GivenProgram,
     explanation: &Explanation,
 ) -> Status
     ensures status { (result ≡ explanations.status_of_explained explanation.now) ⊎ (result ≡ exit.Failed) }
@@ -178,7 +178,7 @@ fn print_explanation<O: Write, E: Write>(
 {
     let status = print_text(alloc, stdout, stderr, explanation.lines.as_str());
     if status == Status::Done {
-        tell_refusal(alloc, stderr, explanation)
+        tell_refusal(alloc, stderr, given, explanation)
     } else {
         status
     }
@@ -195,45 +195,41 @@ fn tell_no_code<E: Write>(alloc: Global, stderr: &mut E, image: &[u8], fault: Is
     }
 }
 
-/// Prints what the verifier knows of the program of an image and a helper table, or says why there is
-/// none; answers the status.
-fn explain_bytes<O: Write, E: Write>(
+/// Prints what the verifier knows of a program, or says why its image has no code; answers the status.
+fn explain_given<O: Write, E: Write>(
     alloc: Global,
     stdout: &mut O,
     stderr: &mut E,
-    image: &[u8],
-    table: Table,
+    given: &GivenProgram,
     extent: Coverage,
 ) -> Status
-    ensures { PrintsExplanation extent (program_of image.now table) result (O.contents stdout.old) (O.contents stdout.new) }
+    ensures { PrintsExplanation extent (program_in given.now) result (O.contents stdout.old) (O.contents stdout.new) }
 {
-    match explain_image(alloc, image, table, extent) {
-        Ok(explanation) => print_explanation(alloc, stdout, stderr, &explanation),
-        Err(fault) => tell_no_code(alloc, stderr, image, fault),
+    match explain_image(alloc, &given.image, given.table, extent) {
+        Ok(explanation) => print_explanation(alloc, stdout, stderr, given, &explanation),
+        Err(fault) => tell_no_code(alloc, stderr, &given.image, fault),
     }
 }
 
-/// Explains the program of the image in a file and a helper table; answers the status.
+/// Explains the program in a file, by the helper table that is named, if one is; answers the status.
 fn explain_file<F: Files, I, O: Write, E: Write>(
     host: &mut Host<F, I, O, E>,
     name: &str,
-    table: Table,
+    named: Option<Table>,
     extent: Coverage,
 ) -> Status
-    ensures { PrintsOfFile F.bytes O.contents host.old host.new name.now (λ bytes. PrintsExplanation extent (program_of (first_bytes bytes) table) result) }
+    ensures { PrintsOfFile F.bytes O.contents host.old host.new name.now (λ bytes. OfGiven (given_program named (first_bytes bytes)) (λ given. PrintsExplanation extent (program_in given)) result) }
 {
-    let image = match read_image(host.alloc, &mut host.files, name) {
-        Ok(image) => image,
-        Err(unread) => return tell_unread(host.alloc, &mut host.stderr, name, unread),
-    };
-    explain_bytes(
-        host.alloc,
-        &mut host.stdout,
-        &mut host.stderr,
-        image.as_slice(),
-        table,
-        extent,
-    )
+    match read_program(host.alloc, &mut host.files, name, named) {
+        Ok(given) => explain_given(
+            host.alloc,
+            &mut host.stdout,
+            &mut host.stderr,
+            &given,
+            extent,
+        ),
+        Err(ungiven) => tell_ungiven(host.alloc, &mut host.stderr, name, ungiven),
+    }
 }
 
 /// Says at which line a text is refused and why, and answers the status.
@@ -315,7 +311,7 @@ fn assemble_file<F: Files, E: Write>(
     }
 }
 
-/// Does what is asked of an image, and answers the status.
+/// Does what is asked of a program, and answers the status.
 fn image_command<F: Files, I, O: Write, E: Write>(
     host: &mut Host<F, I, O, E>,
     call: ImageCall<'_>,
@@ -324,9 +320,9 @@ fn image_command<F: Files, I, O: Write, E: Write>(
         ImageCall::Assemble(text, image) => {
             assemble_file(host.alloc, &mut host.files, &mut host.stderr, text, image)
         }
-        ImageCall::Check(image, table) => check_file(host, image, table),
-        ImageCall::Disassemble(image) => disassemble_file(host, image),
-        ImageCall::Explain(image, table, extent) => explain_file(host, image, table, extent),
+        ImageCall::Check(program, named) => check_file(host, program, named),
+        ImageCall::Disassemble(program) => disassemble_file(host, program),
+        ImageCall::Explain(program, named, extent) => explain_file(host, program, named, extent),
     }
 }
 
@@ -343,7 +339,7 @@ pub fn command<R: Threads + Wait + Sync, F: Files, I: Read, O: Write, E: Write>(
         Ok(Call::List(listing, file)) => list(host, listing, file),
         Ok(Call::Recheck(list)) => recheck(host, list),
         Ok(Call::Run(script)) => run(rt, host, script),
-        Ok(Call::Transform(table, words)) => transform(host, table, words),
+        Ok(Call::Transform(named, words)) => transform(host, named, words),
         Err(Misuse::Usage) => tell_usage(&mut host.stderr).status,
         Err(Misuse::Memory) => tell_memory(&mut host.stderr),
     }

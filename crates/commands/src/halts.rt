@@ -13,6 +13,7 @@ use batch::BatchFault;
 use batch_reader::{BatchReader, Position, ReadFault};
 use batch_text::NoBatch;
 use bytes::Bytes;
+use program_file::FileFault;
 use std::alloc::{AllocError, Global};
 use std::io;
 use std::io::{Read, Write};
@@ -32,8 +33,10 @@ const CURE: &str =
 /// Why a transform ends early.
 #[derive(Drop)]
 pub(crate) enum Halt {
-    /// The image is no program, or the verifier refuses it.
-    Image(LoadFault),
+    /// The image is no program, or the verifier refuses it. Fields: the fault, and what is said of it.
+    Image(LoadFault, String),
+    /// The program file is refused.
+    Program(FileFault),
     /// The bytes that follow begin with no batch, or end inside one.
     Batch(NoBatch),
     /// The offsets of records or rows are used up.
@@ -157,7 +160,8 @@ pub(crate) fn halted(ending: Ending) -> Result<(), Halt>
 /// What is said of a transform that ended early.
 fn halt_text(alloc: Global, words: &[String], halt: &Halt) -> Result<String, AllocError> {
     match halt {
-        Halt::Image(fault) => format!(in alloc; "{fault}\n"),
+        Halt::Image(_, text) => String::from_str(alloc, text.as_str()),
+        Halt::Program(fault) => format!(in alloc; "{fault}\n"),
         Halt::Batch(refusal) => batch_text(alloc, refusal),
         Halt::Full => String::from_str(alloc, "full\n"),
         Halt::File(word) => file_text(alloc, name_or_none(words, *word)),
@@ -203,7 +207,7 @@ fn status_of(halt: &Halt) -> Status
     ensures { result ≡ status_of_halt halt.now }
 {
     match halt {
-        Halt::Image(_) | Halt::Batch(..) | Halt::Full => Status::Refused,
+        Halt::Image(..) | Halt::Program(_) | Halt::Batch(..) | Halt::Full => Status::Refused,
         Halt::File(_) | Halt::Memory => Status::Failed,
     }
 }

@@ -1,4 +1,4 @@
-//! Images of programs: how much of a file is read as one, and what `check` prints.
+//! Images of programs and program files: how much of a file is read as one, and what `check` prints of an image.
 
 ghost use Rattle.std.specs.Prelude.{◌≡◌, List, ℕ, Some, IfOk, string_bytes};
 ghost use Rattle.commands.specs.declared.image.Refused.TheVariants as refused;
@@ -9,13 +9,14 @@ ghost use Rattle.commands.specs.Images.{first_bytes, accepted_line, IsRefusal, C
 
 use crate::files::Files;
 use crate::reading::{Unread, cause_of, read_whole};
-use machine_spec::{IsaFault, MAX_SLOTS, Table};
+use machine_spec::{IsaFault, Table};
 use std::alloc::{AllocError, Global};
 use std::io::Read;
 use verifier_spec::{Check, LoadFault};
 
-/// How much of a file is read as an image: one byte more than the greatest has, of slots of 8 bytes.
-const MOST_READ: u64 = MAX_SLOTS as u64 * 8 + 1;
+/// How much of a file is read as a program. The greatest image has less, and a program file then has room for lines of
+/// some five hundred bytes for each slot.
+const MOST_READ: u64 = 0x80_0000;
 
 /// Why a call on an image prints nothing.
 #[derive(Clone, Copy, Drop)]
@@ -26,8 +27,8 @@ pub enum Refused {
     Memory,
 }
 
-/// The first bytes of a reader, one more than the greatest image has. Whatever follows them, an
-/// image of `MOST_READ` bytes is refused by its size; so a file without end is refused too.
+/// The first bytes of a reader. Whatever follows them, an image of `MOST_READ` bytes is refused by its
+/// size; so a file without end is refused too.
 fn read_first<R: Read + Drop>(alloc: Global, reader: R) -> Result<Vec<u8>, Unread>
     ensures { (bytes : List ℕ) → R.remaining reader ≡ Some bytes → IfOk result (λ first. first.items ≡ first_bytes bytes) }
 {
@@ -35,7 +36,7 @@ fn read_first<R: Read + Drop>(alloc: Global, reader: R) -> Result<Vec<u8>, Unrea
     read_whole(alloc, &mut first)
 }
 
-/// The image in a named file: its first bytes, as many as show whether it is too large.
+/// The first bytes of a named file, which are all of a program.
 pub fn read_image<F: Files>(alloc: Global, files: &mut F, name: &str) -> Result<Vec<u8>, Unread>
     ensures read { (bytes : List ℕ) → F.bytes files.old name.now ≡ Some bytes → IfOk result (λ image. image.items ≡ first_bytes bytes) }
     ensures kept { KeepsAll (F.bytes files.old) (F.bytes files.new) }

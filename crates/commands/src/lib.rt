@@ -15,6 +15,7 @@ mod dis;
 mod endpoint;
 mod explaining;
 mod files;
+mod given;
 mod halts;
 mod host;
 mod image;

@@ -7,7 +7,8 @@ ghost use Rattle.commands.specs.Files.{KeepsAll};
 ghost use Rattle.commands.specs.declared.reading.Unread.TheVariants as unread;
 
 use crate::files::Files;
-use std::alloc::Global;
+use bytes::Bytes;
+use std::alloc::{AllocError, Global};
 use std::io;
 use std::io::Read;
 
@@ -29,6 +30,13 @@ pub fn read_whole<R: Read>(alloc: Global, reader: &mut R) -> Result<Vec<u8>, Unr
         Ok(_) => Ok(bytes),
         Err(error) => Err(cause_of(&error)),
     }
+}
+
+/// The same bytes, for several owners.
+pub fn shared(bytes: Vec<u8>) -> Result<Bytes, AllocError>
+    ensures { IfOk result (λ shared. shared ≡ bytes.items) }
+{
+    Ok(Bytes::from_vec(bytes)?)
 }
 
 /// Why a file can't be read.

@@ -1,30 +1,31 @@
 //! Programs of a list, verified anew.
 
-ghost use Rattle.std.specs.Prelude.{◌≡◌, ◌==◌, ◌<◌, ◌≤◌, ◌⊎◌, ◌∷◌, ◌++◌, length, IfOk, IfSome, OnOk, IfErr};
+ghost use Rattle.std.specs.Prelude.{◌≡◌, ◌==◌, ◌<◌, ◌≤◌, ◌⊎◌, ◌∷◌, ◌++◌, length, Ok, IfOk, IfSome, OnOk, IfErr};
 ghost use Rattle.std.specs.List.{slice_split};
 ghost use Rattle.std.specs.Io.KnownBytes.{Appends};
-ghost use Rattle.machine_spec.specs.Image.{program_of};
 ghost use Rattle.script.specs.Words.{texts, word_at};
 ghost use Rattle.commands.specs.declared.stop.Stop.TheVariants as stop;
 ghost use Rattle.commands.specs.Hosts.{KeepsInputs, PrintsOfFile};
 ghost use Rattle.commands.specs.Rechecks as definitions;
-ghost use Rattle.commands.specs.Rechecks.{ImageTells, LineTells, Rechecks, RechecksAs};
+ghost use Rattle.commands.specs.Rechecks.{LineTells, ProgramTells, Rechecks, RechecksAs, RefusesFile};
 ghost use Rattle.commands.specs.Stops.{IsUnwritten};
 
 use crate::asm::read_text;
 use crate::files::Files;
+use crate::given::{Ungiven, read_program};
 use crate::host::Host;
-use crate::image::{Refused, check, read_image};
+use crate::image::{Refused, check};
 use crate::reading::Unread;
 use crate::run::Ended;
 use crate::status::Status;
 use crate::stop::{Stop, stop_of_unread};
 use crate::telling::{say, tell, tell_unread, write_out};
 use machine_spec::Table;
+use program_file::GivenProgram;
 use script::{FileName, ScriptFault};
 use std::alloc::{AllocError, Global};
+use std::fmt::Display;
 use std::io::Write;
-use verifier_spec::LoadFault;
 
 /// The pieces of a text between separators.
 fn pieces<'a>(alloc: Global, text: &'a str, separator: char) -> Result<Vec<&'a str>, AllocError>
@@ -54,8 +55,9 @@ fn without_end<'a, 'b>(pieces: &'b [&'a str]) -> &'b [&'a str]
     }
 }
 
-/// The helper table that the words of a line name, if they name a program.
-fn table_of(words: &[&str]) -> Option<Table>
+/// The helper table that the words of a line name, if they name one beside a program. `None` where they
+/// name no program.
+fn table_of(words: &[&str]) -> Option<Option<Table>>
     ensures table { result ≡ definitions.table_of (texts words.now) }
     ensures long { IfSome result (λ _. 1 ≤ length words.now) }
 {
@@ -63,20 +65,20 @@ fn table_of(words: &[&str]) -> Option<Table>
         return None;
     }
     if words.len() == 1 {
-        return Some(Table::One);
+        return Some(None);
     }
     if words.len() == 2 && words[1] == "2" {
-        return Some(Table::Two);
+        return Some(Some(Table::Two));
     }
     None
 }
 
 /// Says that a program is refused, and why.
-fn tell_refusal<E: Write>(
+fn tell_refusal<E: Write, D: Display + Drop>(
     alloc: Global,
     stderr: &mut E,
     file: &str,
-    fault: LoadFault,
+    fault: D,
 ) -> Result<(), Stop>
     ensures { IfErr result IsUnwritten }
 {
@@ -99,19 +101,17 @@ fn print_accepted<O: Write>(
     write_out(stdout, text.as_str())
 }
 
-/// Verifies the program of an image, and says that it is accepted or why it is refused; answers
-/// whether it is refused.
-fn recheck_image<O: Write, E: Write>(
+/// Verifies a program, and says that it is accepted or why it is refused; answers whether it is refused.
+fn recheck_given<O: Write, E: Write>(
     alloc: Global,
     stdout: &mut O,
     stderr: &mut E,
     file: &str,
-    image: &[u8],
-    table: Table,
+    given: &GivenProgram,
 ) -> Result<bool, Stop>
-    ensures { ImageTells file.now (program_of image.now table) (O.contents stdout.old) (O.contents stdout.new) result }
+    ensures { ProgramTells file.now (Ok given.now) (O.contents stdout.old) (O.contents stdout.new) result }
 {
-    match check(alloc, image, table) {
+    match check(alloc, &given.image, given.table) {
         Ok(text) => {
             print_accepted(alloc, stdout, file, text.as_str())?;
             Ok(false)
@@ -134,6 +134,24 @@ fn stop_of_file(alloc: Global, file: &str, cause: Unread) -> Stop
     }
 }
 
+/// Says why a file gives no program, unless it can't be read; answers that it is refused.
+fn refuse_file<E: Write>(
+    alloc: Global,
+    stderr: &mut E,
+    file: &str,
+    ungiven: Ungiven,
+) -> Result<bool, Stop>
+    ensures { RefusesFile file.now ungiven result }
+{
+    match ungiven {
+        Ungiven::Unread(cause) => Err(stop_of_file(alloc, file, cause)),
+        Ungiven::File(fault) => {
+            tell_refusal(alloc, stderr, file, fault)?;
+            Ok(true)
+        }
+    }
+}
+
 /// Verifies the program that a line names, and says that it is accepted or why it is refused; answers
 /// whether it is refused.
 fn recheck_line<F: Files, I, O: Write, E: Write>(
@@ -145,23 +163,14 @@ fn recheck_line<F: Files, I, O: Write, E: Write>(
 {
     let alloc = host.alloc;
     let words = pieces(alloc, line, ' ')?;
-    let Some(table) = table_of(&words) else {
+    let Some(named) = table_of(&words) else {
         return Err(Stop::Line(ScriptFault::Syntax));
     };
     let name = piece(&words, 0);
-    let image = match read_image(alloc, &mut host.files, name) {
-        Ok(image) => image,
-        Err(cause) => return Err(stop_of_file(alloc, name, cause)),
-    };
-    let image = image.as_slice();
-    recheck_image(
-        alloc,
-        &mut host.stdout,
-        &mut host.stderr,
-        name,
-        image,
-        table,
-    )
+    match read_program(alloc, &mut host.files, name, named) {
+        Ok(given) => recheck_given(alloc, &mut host.stdout, &mut host.stderr, name, &given),
+        Err(ungiven) => refuse_file(alloc, &mut host.stderr, name, ungiven),
+    }
 }
 
 /// Verifies the programs of a list's lines in order, up to one that names none; answers whether one is

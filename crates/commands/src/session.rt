@@ -17,6 +17,7 @@ use crate::batches::{Put, batch_of};
 use crate::files::Files;
 use crate::image::read_image;
 use crate::printing::{print, print_line};
+use crate::reading::shared;
 use crate::stop::{Stop, end_of_all, stop_of_unread};
 use broker::{Broker, BrokerFault, Parts, Until};
 use bytes::Bytes;
@@ -24,6 +25,7 @@ use catalogue::{Catalogue, Finder, Known};
 use log_spec::RawName;
 use machine_spec::Table;
 use part_log::{Names, Receipt, Trail};
+use program_file::given_program;
 use report::gather;
 use script::{
     Command, FileWord, ScriptFault, append_text, close_text, deploy_text, fetch_text, first_fault,
@@ -60,12 +62,6 @@ impl<'a, Id: Names, R: Wait> Model for Session<'a, Id, R> {
     ghost view = { λ s. session_of s.broker (by_text s.loaded.entries) s.refusing };
 
     ghost invariant = { λ s. (s.broker ≡ Id.inputs) × AreOfNames (by_text s.loaded.entries) };
-}
-
-fn shared(bytes: Vec<u8>) -> Result<Bytes, AllocError>
-    ensures { IfOk result (λ shared. shared ≡ bytes.items) }
-{
-    Ok(Bytes::from_vec(bytes)?)
 }
 
 impl<'a, Id: Names + Send + Sync, R: Threads + Wait + Sync> Session<'a, Id, R> {
@@ -136,7 +132,7 @@ impl<'a, Id: Names + Send + Sync, R: Threads + Wait + Sync> Session<'a, Id, R> {
         }
     }
 
-    /// The image that a command names.
+    /// The bytes of the program that a command names.
     #[tactic(auto, using(crate::proofs::StopLaws::unread_is))]
     fn image<F: Files>(&self, files: &mut F, source: FileWord) -> Result<Bytes, Stop>
         ensures read { IfOk result (IsImageIn (F.bytes files.old) source) }
@@ -178,19 +174,20 @@ impl<'a, Id: Names + Send + Sync, R: Threads + Wait + Sync> Session<'a, Id, R> {
         Ok(line)
     }
 
-    /// Loads the image that a command names, and prints its line once what is known of it is kept.
+    /// Loads the program that a command names, and prints its line once what is known of it is kept.
     fn load_source<F: Files, O: Write>(
         &mut self,
         files: &mut F,
         stdout: &mut O,
         name: RawName,
         source: FileWord,
-        table: Table,
+        named: Option<Table>,
     ) -> Result<(), Stop>
-        ensures { LoadDoes (F.bytes files.old) name source table self.old.script self.new.script (O.contents stdout.old) (O.contents stdout.new) result }
+        ensures { LoadDoes (F.bytes files.old) name source named self.old.script self.new.script (O.contents stdout.old) (O.contents stdout.new) result }
     {
-        let image = self.image(files, source)?;
-        let line = self.load(name, &image, table)?;
+        let bytes = self.image(files, source)?;
+        let given = given_program(self.alloc, named, bytes)?;
+        let line = self.load(name, &given.image, given.table)?;
         print(stdout, line.as_str())
     }
 
@@ -379,8 +376,8 @@ impl<'a, Id: Names + Send + Sync, R: Threads + Wait + Sync> Session<'a, Id, R> {
     {
         match command {
             Command::Partitions(..) => unreachable!(),
-            Command::Load(name, source, table) => {
-                self.load_source(files, stdout, name, source, table)
+            Command::Load(name, source, named) => {
+                self.load_source(files, stdout, name, source, named)
             }
             Command::Deploy(input, name) => self.deploy(stdout, input, name, receipts),
             Command::Put(input, timestamp, key, value) => {

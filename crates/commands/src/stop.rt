@@ -5,7 +5,7 @@ ghost use Rattle.std.specs.IoError.{error_kind};
 ghost use Rattle.std.specs.declared.io.ErrorKind.TheVariants.{OutOfMemory};
 ghost use Rattle.commands.specs.declared.stop.Stop.TheVariants as stop;
 ghost use Rattle.commands.specs.declared.status.Status.TheVariants.{Failed};
-ghost use Rattle.commands.specs.Stops.{stop_of_fault, stop_of_broker, stop_of_report, stop_of_unread, stop_of_stream, end_of_stream, status_of, end_of, end_of_all, IsUnwritten};
+ghost use Rattle.commands.specs.Stops.{stop_of_file, stop_of_fault, stop_of_broker, stop_of_report, stop_of_unread, stop_of_stream, end_of_stream, status_of, end_of, end_of_all, IsUnwritten};
 
 use crate::reading::Unread;
 use crate::status::Status;
@@ -14,6 +14,7 @@ use broker::{BrokerFault, Ended, StreamFault};
 use catalogue::CatFault;
 use out_book::BookFault;
 use part_log::LogFault;
+use program_file::FileFault;
 use report::ReportFault;
 use script::{FileName, ScriptFault};
 use std::alloc::AllocError;
@@ -24,6 +25,8 @@ use std::io;
 pub enum Stop {
     /// The line is refused before anything of it is done.
     Line(ScriptFault),
+    /// The program file that the line names is refused.
+    Program(FileFault),
     /// The broker refuses what the line asks for.
     Broker(BrokerFault),
     /// The bytes that the line names are no record batches.
@@ -43,6 +46,17 @@ impl From<AllocError> for Stop {
 
     fn from(_e: AllocError) -> Stop {
         Stop::Memory
+    }
+}
+
+impl From<FileFault> for Stop {
+    ghost from_gives = { λ fault e. e ≡ stop_of_file fault };
+
+    fn from(fault: FileFault) -> Stop {
+        match fault {
+            FileFault::Memory => Stop::Memory,
+            _ => Stop::Program(fault),
+        }
     }
 }
 
@@ -144,7 +158,7 @@ pub fn status_of(stop: &Stop) -> Status
     ensures { result ≡ status_of stop.now }
 {
     match stop {
-        Stop::Line(_) | Stop::Broker(_) | Stop::Batch(_) => Status::Refused,
+        Stop::Line(_) | Stop::Program(_) | Stop::Broker(_) | Stop::Batch(_) => Status::Refused,
         Stop::File(_) | Stop::Output | Stop::Thread | Stop::Memory => Status::Failed,
     }
 }

@@ -6,11 +6,13 @@ ghost use Rattle.std.specs.Io.KnownBytes.{Appends};
 ghost use Rattle.commands.specs.declared.status.Status.TheVariants.{Done, Failed};
 ghost use Rattle.commands.specs.Stops.{status_of, status_of_refused, IsUnwritten};
 
+use crate::explaining::refused_text;
 use crate::image::Refused;
 use crate::reading::Unread;
 use crate::run::Ended;
 use crate::status::Status;
 use crate::stop::{Stop, status_of, unwritten};
+use program_file::GivenProgram;
 use std::alloc::{AllocError, Global};
 use std::fmt::Display;
 use std::io::Write;
@@ -62,6 +64,7 @@ fn line_text<D: Display>(alloc: Global, line: u64, fault: &D) -> Result<String, 
 fn end_text(alloc: Global, ended: &Ended) -> Result<String, AllocError> {
     match &ended.stop {
         Stop::Line(fault) => line_text(alloc, ended.line, fault),
+        Stop::Program(fault) => line_text(alloc, ended.line, fault),
         Stop::Broker(fault) => line_text(alloc, ended.line, fault),
         Stop::Batch(fault) => line_text(alloc, ended.line, fault),
         Stop::File(file) => file_text(alloc, file.text.as_str()),
@@ -130,13 +133,20 @@ pub(crate) fn print_text<O: Write, E: Write>(
     }
 }
 
-/// Says why a call on an image prints nothing, and answers the status. Where there is no memory for
+/// Says why a call on a program prints nothing, and answers the status. Where there is no memory for
 /// the text, it says that.
-pub(crate) fn tell_refused<E: Write>(alloc: Global, stderr: &mut E, refused: Refused) -> Status
+pub(crate) fn tell_refused<E: Write>(
+    alloc: Global,
+    stderr: &mut E,
+    given: &GivenProgram,
+    refused: Refused,
+) -> Status
     ensures { (result ≡ status_of_refused refused) ⊎ (result ≡ Failed) }
 {
     match refused {
-        Refused::Image(fault) => tell_text(stderr, format!(in alloc; "{fault}\n"), Status::Refused),
+        Refused::Image(fault) => {
+            tell_text(stderr, refused_text(alloc, given, fault), Status::Refused)
+        }
         Refused::Memory => tell_memory(stderr),
     }
 }

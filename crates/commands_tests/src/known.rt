@@ -1,6 +1,6 @@
 //! Calls over a shelf, whose files have known bytes: what the commands promise of known bytes is met there.
 
-ghost use Rattle.std.specs.Prelude.{Some, IfSome, codes};
+ghost use Rattle.std.specs.Prelude.{Some, None, IfSome, codes};
 ghost use Rattle.command_line.specs.Calls.{names_of};
 ghost use Rattle.commands.specs.FileTransforms.{CallWrites};
 ghost use Rattle.commands.specs.Rechecks.{RechecksAs};
@@ -8,7 +8,6 @@ ghost use Rattle.commands_tests.specs.Shelves.{bytes_in, left_of, with_file};
 
 use crate::shelf::{BATCHES, FORWARD, Shelf, TestHost, host_of, input_of, shelf_of};
 use commands::{Files, Status, recheck, transform};
-use machine_spec::Table;
 use std::alloc::Global;
 use std::test::*;
 
@@ -39,13 +38,13 @@ fn a_list_on_a_shelf_is_rechecked(rt: HostRuntime) {
     assert!(rt; is_rechecked(rt.alloc(), b"forward.bin\n\n", Status::Refused, printed));
 }
 
-/// Runs a program of the first helper table on batches. The words are the image, the batches and the file of the one
+/// Runs a program on batches, with no helper table named. The words are the image, the batches and the file of the one
 /// output partition.
 fn transform_to(host: &mut TestHost, words: &[String; 3]) -> Status
-    ensures { CallWrites Table.One (names_of words.now) (left_of host.old.stdin) (bytes_in host.old.files.files)
+    ensures { CallWrites None (names_of words.now) (left_of host.old.stdin) (bytes_in host.old.files.files)
         (bytes_in host.new.files.files) result }
 {
-    transform(host, Table::One, words)
+    transform(host, None, words)
 }
 
 /// How many bytes a file has; 0 where it is not there.

@@ -9,7 +9,7 @@ use Rattle.verifier_spec.specs.{Annotation.Claims, JoinedStates.joined_states, L
 use Rattle.verifier_spec.specs.Loading.{IsRefusedWith}
 use Rattle.explain.specs.declared.{explanation.Explanation.Explanation, explanation.Diagnosis.Diagnosis, way.Coverage.Coverage}
 use Rattle.explain.specs.{Texts.texts_below, Ways.is_listed, Ways.lines_where, Endings.ending_text, Reasons.reason_at}
-use Rattle.explain.specs.Hints.{hint_at}
+use Rattle.explain.specs.{Hints.hint_at, Meetings.slot_of}
 
 -- A program is accepted, or refused at an instruction with its fault.
 abbrev pub IsVerdict : Program → Option VerifyFault → Type 0
@@ -27,11 +27,12 @@ listing coverage code claims fault =
     texts_below (printed_count code fault) (lines_where (is_listed coverage code claims fault) code claims)
     ++ ending_text claims (printed_count code fault) fault
 
--- a fault of code with these states, what it is about, and what usually leads to it
+-- a fault of code with these states, its slot, what it is about, and what usually leads to it
 abbrev pub refusal_at : Table → List Placed → Claims → VerifyFault → Diagnosis
 refusal_at table code claims fault =
     record {
       fault = fault;
+      slot = slot_of code fault.pc;
       reason = reason_at code claims fault;
       hint = hint_at table code claims fault (reason_at code claims fault);
     }

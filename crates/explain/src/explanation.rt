@@ -19,7 +19,6 @@ use annotate::{LoadFault, joined_states, load};
 use bpf_isa::{Code, decode};
 use machine_spec::{IsaFault, Table};
 use std::alloc::{AllocError, Global};
-use std::fmt;
 use verifier_spec::{Check, VerifyFault};
 
 /// Why a program is refused.
@@ -27,25 +26,14 @@ use verifier_spec::{Check, VerifyFault};
 pub struct Diagnosis {
     /// The check that fails, at the lowest instruction that fails one.
     pub fault: VerifyFault,
+    /// The slot of that instruction.
+    pub slot: usize,
     /// What the check fails on.
     pub reason: Option<Reason>,
     /// What usually leads to it, and what to do.
     pub hint: Option<Hint>,
 }
 
-impl fmt::Display for Diagnosis {
-    fn fmt<W: fmt::Write>(&self, f: &mut fmt::Formatter<W>) -> fmt::Result {
-        let fault = self.fault;
-        write!(f, "{fault}")?;
-        if let Some(reason) = self.reason {
-            write!(f, "\n{reason}")?;
-        }
-        if let Some(hint) = self.hint {
-            write!(f, "\n{hint}")?;
-        }
-        Ok(())
-    }
-}
 
 /// What the verifier knows of a program.
 #[derive(Debug, Drop)]
@@ -122,12 +110,14 @@ fn refusal_at(
     table: Table,
     fault: VerifyFault,
 ) -> Result<Diagnosis, AllocError>
+    requires { fault.pc < length graph.now }
     ensures { IfOk result (λ refusal. refusal ≡ definitions.refusal_at table graph.now states.now fault) }
 {
     let reason = reason_at(graph.code(), states, fault);
     let hint = hint_at(alloc, graph, states, table, fault, reason)?;
     Ok(Diagnosis {
         fault,
+        slot: graph.code().slot(fault.pc),
         reason,
         hint,
     })
@@ -140,6 +130,7 @@ fn refusal_with(
     table: Table,
     fault: Option<VerifyFault>,
 ) -> Result<Option<Diagnosis>, AllocError>
+    requires { IfSome fault (λ f. f.pc < length graph.now) }
     ensures { IfOk result (λ refusal. refusal ≡ option_map (definitions.refusal_at table graph.now states.now) fault) }
 {
     match fault {

@@ -5,9 +5,11 @@ use Rattle.std.specs.Prelude.{Result, Ok, Err, string_bytes}
 use Rattle.wire_spec.specs.{declared.record.Header.Header, declared.record.Record.Record, RecordSpelling.RecordFits}
 use Rattle.wire_spec.specs.declared.limits.TheConstants.{MAX_KEY, MAX_VALUE, TIMESTAMP_END}
 use Rattle.machine_spec.specs.declared.{outcome.Outcome.Outcome, outcome.Place.Place, helper.Table.Table}
-use Rattle.machine_spec.specs.{Image.Program, Image.program_of, Machine.Input, Meaning.Means}
+use Rattle.machine_spec.specs.{Image.Program, Machine.Input, Meaning.Means}
+use Rattle.program_file.specs.declared.{fault.FileFault.FileFault, choice.GivenProgram.GivenProgram}
+use Rattle.program_file.specs.Choice.{given_program, program_in}
 use Rattle.verifier_spec.specs.{declared.fault.LoadFault.LoadFault, Loading.IsAccepted, Loading.IsRefusedWith}
-use Rattle.klog_c.specs.{Numbers.fault_number, Numbers.fault_place, RecordParts.part_of, RecordParts.is_part_fitting}
+use Rattle.klog_c.specs.{Numbers.fault_number, Numbers.fault_place, Numbers.file_number, RecordParts.part_of, RecordParts.is_part_fitting}
 use Rattle.klog_c.specs.{Headers.header_of, Headers.header_fault}
 use Rattle.klog_c.specs.declared.faults.TheConstants.{MEMORY, KIND, LENGTH}
 use Rattle.c_outcomes.specs.declared.numbers.TheConstants.{RANGE}
@@ -81,13 +83,14 @@ Fills object before after (suc number) =
 
 -- ---- loads
 
--- the helper table with a number
-abbrev pub table_with_number : ℕ → Option Table
-table_with_number number = if number == 1 then Some Table.One else if number == 2 then Some Table.Two else None
+-- the helper table that a number names: none by 0; other numbers than 0 to 2 are out of their range
+abbrev pub table_with_number : ℕ → Option (Option Table)
+table_with_number number = if number == 0 then Some None else if number == 1 then Some (Some Table.One) else
+    if number == 2 then Some (Some Table.Two) else None
 
--- the program of an image and the number of a helper table, if there is a table with the number
-abbrev pub program_with : List ℕ → ℕ → Option Program
-program_with image number = option_map (program_of image) (table_with_number number)
+-- what bytes give as a program, with a number that names a helper table, if the number is in its range
+abbrev pub given_with : List ℕ → ℕ → Option (Result GivenProgram FileFault)
+given_with bytes number = option_map (λ named. given_program named bytes) (table_with_number number)
 
 -- the place of a refusal, by its number; where memory ran out the place is as it was
 abbrev pub TellsPlace : LoadFault → ℕ → ℕ → ℕ → Type 0
@@ -102,14 +105,25 @@ pub record Refuses (program : Program) (place number : ℕ) : Type 0 where
   pub number_is : number ≡ fault_number fault
   pub place_is : place ≡ fault_place fault
 
--- The program is accepted, and the handle is filled with it; or memory ran out, or the program is refused. There may be
--- no program. A refusal alone has a place; else that is as it was.
-abbrev pub Loads : Option Program → Option Object → Option Object → ℕ → ℕ → ℕ → Type 0
-Loads None before after place_before place number = Fails RANGE before after number × (place ≡ place_before)
-Loads (Some program) before after place_before place number =
+-- The program is accepted, and the handle is filled with it; or memory ran out, or the program is refused. A refusal of
+-- its image alone has a place; else that is as it was.
+abbrev pub LoadsProgram : Program → Option Object → Option Object → ℕ → ℕ → ℕ → Type 0
+LoadsProgram program before after place_before place number =
     (IsAccepted program × Fills (object.Program program) before after number × (place ≡ place_before))
     ⊎ (Fails MEMORY before after number × (place ≡ place_before))
     ⊎ ((after ≡ before) × Refuses program place number)
+
+-- The same of what bytes give. A program file that is refused has its fault, and MEMORY where memory ran out.
+abbrev pub LoadsGiven : Result GivenProgram FileFault → Option Object → Option Object → ℕ → ℕ → ℕ → Type 0
+LoadsGiven (Ok given) before after place_before place number =
+    LoadsProgram (program_in given) before after place_before place number
+LoadsGiven (Err fault) before after place_before place number =
+    (Fails (file_number fault) before after number ⊎ Fails MEMORY before after number) × (place ≡ place_before)
+
+-- The same where the number of a helper table may be out of its range.
+abbrev pub Loads : Option (Result GivenProgram FileFault) → Option Object → Option Object → ℕ → ℕ → ℕ → Type 0
+Loads None before after place_before place number = Fails RANGE before after number × (place ≡ place_before)
+Loads (Some given) before after place_before place number = LoadsGiven given before after place_before place number
 
 -- the other handle is filled with the same program, if there is one
 abbrev pub Shares : Result Program ℕ → Option Object → Option Object → ℕ → Type 0

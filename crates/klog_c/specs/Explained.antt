@@ -2,13 +2,15 @@
 use Rattle.std.specs.Prelude.{◌≡◌, ◌≢◌, ◌⊎◌, ℕ, Bool, List, ◌++◌, length, Option, Some, None, Result, Ok, Err}
 use Rattle.std.specs.{Global.Global, Prelude.String, Prelude.string_bytes, Prelude.if◌then◌else◌}
 use Rattle.machine_spec.specs.{Image.Program, declared.instruction.IsaFault.IsaFault}
+use Rattle.program_file.specs.declared.{fault.FileFault.FileFault, choice.GivenProgram.GivenProgram}
+use Rattle.program_file.specs.Choice.{program_in}
 use Rattle.machine_spec.specs.declared.instruction.IsaFault.TheVariants as isa
 use Rattle.explain.specs.declared.{explanation.Explanation.Explanation, explanation.Diagnosis.Diagnosis, way.Coverage.Coverage}
 use Rattle.explain.specs.declared.way.Coverage.TheVariants as extent
 use Rattle.explain.specs.{Explanations.ExplainsAs, ImageFaults.image_fault_text}
 use Rattle.klog_c.specs.declared.faults.TheConstants.{MEMORY}
 use Rattle.c_outcomes.specs.{declared.numbers.TheConstants.RANGE, Outcomes.Copies}
-use Rattle.klog_c.specs.{declared.object.Object.Object, Calls.Fails, Calls.Fills}
+use Rattle.klog_c.specs.{declared.object.Object.Object, Calls.Fails, Calls.Fills, Numbers.file_number}
 use Rattle.klog_c.specs.declared.object.Object.TheVariants as object
 
 -- the listed lines are the whole text where the program is accepted; else they begin it, and its refusal follows
@@ -34,13 +36,24 @@ IsExplained extent program text =
 abbrev pub extent_of : Bool → Coverage
 extent_of is_refused_alone = if is_refused_alone then extent.Refused else extent.All
 
--- the handle is filled with what is explained of the program, if there is one; or memory ran out
-abbrev pub Explained : Option Program → Bool → Option Object → Option Object → ℕ → Type 0
-Explained None is_refused_alone before after number = Fails RANGE before after number
-Explained (Some program) is_refused_alone before after number =
-    ((text : String Global) × IsExplained (extent_of is_refused_alone) program (string_bytes text)
+-- the handle is filled with what is explained of the program, to an extent; or memory ran out
+abbrev pub ExplainsProgram : Program → Coverage → Option Object → Option Object → ℕ → Type 0
+ExplainsProgram program extent before after number =
+    ((text : String Global) × IsExplained extent program (string_bytes text)
     × Fills (object.Text text) before after number)
     ⊎ Fails MEMORY before after number
+
+-- The same of what bytes give. A program file that is refused has its fault, and MEMORY where memory ran out.
+abbrev pub ExplainsGiven : Result GivenProgram FileFault → Coverage → Option Object → Option Object → ℕ → Type 0
+ExplainsGiven (Ok given) extent before after number = ExplainsProgram (program_in given) extent before after number
+ExplainsGiven (Err fault) extent before after number =
+    Fails (file_number fault) before after number ⊎ Fails MEMORY before after number
+
+-- The same where the number of a helper table may be out of its range.
+abbrev pub Explained : Option (Result GivenProgram FileFault) → Bool → Option Object → Option Object → ℕ → Type 0
+Explained None is_refused_alone before after number = Fails RANGE before after number
+Explained (Some given) is_refused_alone before after number =
+    ExplainsGiven given (extent_of is_refused_alone) before after number
 
 -- the text is at the front of the buffer, where it fits, and its length is told
 abbrev pub CopiesText : Result (List ℕ) ℕ → List ℕ → List ℕ → ℕ → ℕ → Type 0

@@ -5,6 +5,8 @@ use Rattle.verifier_spec.specs.declared.{fault.Check.Check, fault.LoadFault.Load
 use Rattle.verifier_spec.specs.declared.fault.LoadFault.TheVariants.{Isa, Verify}
 use Rattle.wire_spec.specs.declared.fault.BatchFault.{BatchFault}
 use Rattle.wire_spec.specs.declared.fault.BatchFault.TheVariants as fault
+use Rattle.program_file.specs.declared.fault.FileFault.{FileFault}
+use Rattle.program_file.specs.declared.fault.FileFault.TheVariants as file
 use Rattle.transform.specs.declared.memory.Stop.{Stop}
 use Rattle.transform.specs.declared.memory.Stop.TheVariants as stop
 
@@ -35,6 +37,14 @@ check_number Check.HelperArg = 212
 check_number Check.Exit = 213
 check_number Check.Memory = 1
 check_number Check.Notes = 215
+
+-- the number of a fault of a program file: G1 to G4 are 401 to 404; 1 where memory ran out
+abbrev pub file_number : FileFault → ℕ
+file_number file.Short = 401
+file_number file.Version = 402
+file_number file.Table = 403
+file_number file.Lines = 404
+file_number file.Memory = 1
 
 -- Of a refusal of an image: I1 to I6 are 101 to 106, V1 to V13 are 201 to 213. Where memory ran out it is 1.
 abbrev pub fault_number : LoadFault → ℕ

@@ -3,30 +3,36 @@ use Rattle.std.specs.Prelude.{◌≡◌, ℕ, ◌⊎◌, ◌==◌, ◌&&◌, nat
 use Rattle.klog_c.specs.declared.faults.TheConstants.{MEMORY}
 use Rattle.c_outcomes.specs.Outcomes.{Copies}
 
--- the name of a fault of a batch; `no fault` for every other number
+-- the name of a fault of a program file; `no fault` for every other number
+abbrev pub file_fault_name : ℕ → List ℕ
+file_fault_name n =
+    if n == 401 then codes "G1 Short" else if n == 402 then codes "G2 Version" else
+    if n == 403 then codes "G3 Table" else if n == 404 then codes "G4 Lines" else codes "no fault"
+
+-- the name of a fault of a batch, or of a program file
 abbrev pub batch_fault_name : ℕ → List ℕ
 batch_fault_name n =
     if n == 301 then codes "B1 Short" else if n == 302 then codes "B2 Length" else
     if n == 303 then codes "B3 TooLarge" else if n == 304 then codes "B4 Magic" else
     if n == 305 then codes "B5 Crc" else if n == 306 then codes "B6 Attributes" else
     if n == 307 then codes "B7 Count" else if n == 308 then codes "B8 Record" else
-    if n == 309 then codes "B9 Timestamp" else codes "no fault"
+    if n == 309 then codes "B9 Timestamp" else file_fault_name n
 
--- the name of a fault of an image without code, or of a batch
+-- the name of a fault of an image without code, of a batch or of a program file
 abbrev pub image_fault_name : ℕ → List ℕ
 image_fault_name n =
     if n == 101 then codes "I1 Size" else if n == 102 then codes "I2 Opcode" else
     if n == 103 then codes "I3 Register" else if n == 104 then codes "I4 Unused" else
     if n == 105 then codes "I5 Wide" else if n == 106 then codes "I6 NotInProfile" else batch_fault_name n
 
--- the name of one of the checks V1 to V6, or of a fault of an image without code or of a batch
+-- the name of one of the checks V1 to V6, or of a fault of another kind
 abbrev pub first_check_name : ℕ → List ℕ
 first_check_name n =
     if n == 201 then codes "V1 JumpTarget" else if n == 202 then codes "V2 BackJump" else
     if n == 203 then codes "V3 RunsOff" else if n == 204 then codes "V4 Unset" else
     if n == 205 then codes "V5 Type" else if n == 206 then codes "V6 Frame" else image_fault_name n
 
--- the name of one of the checks V1 to V13, or of a fault of an image without code or of a batch
+-- the name of one of the checks V1 to V13, or of a fault of another kind
 abbrev pub check_name : ℕ → List ℕ
 check_name n =
     if n == 207 then codes "V7 RecordBounds" else if n == 208 then codes "V8 StackBounds" else

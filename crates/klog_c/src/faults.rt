@@ -5,6 +5,7 @@ ghost use Rattle.klog_c.specs.Numbers as definitions;
 
 pub(crate) use c_outcomes::{OK, RANGE};
 use machine_spec::IsaFault;
+use program_file::FileFault;
 use transform::Stop;
 use verifier_spec::{Check, LoadFault, VerifyFault};
 use wire_spec::BatchFault;
@@ -61,6 +62,19 @@ fn check_number(check: Check) -> u32
         Check::Exit => 213,
         Check::Memory => MEMORY,
         Check::Notes => 215,
+    }
+}
+
+/// The number of a fault of a program file: G1 to G4 are 401 to 404.
+pub(crate) fn file_number(fault: FileFault) -> u32
+    ensures { result ≡ definitions.file_number fault }
+{
+    match fault {
+        FileFault::Short => 401,
+        FileFault::Version => 402,
+        FileFault::Table => 403,
+        FileFault::Lines => 404,
+        FileFault::Memory => MEMORY,
     }
 }
 

@@ -1,7 +1,7 @@
 //! Exports on programs: loads, texts of faults, explanations.
 
 ghost use Rattle.std.specs.Prelude.{◌≡◌};
-ghost use Rattle.klog_c.specs.Calls.{Loads, Shares, program_in, program_with, text_in};
+ghost use Rattle.klog_c.specs.Calls.{Loads, Shares, given_with, program_in, text_in};
 ghost use Rattle.klog_c.specs.Explained.{Explained, CopiesText};
 ghost use Rattle.klog_c.specs.Texts.{Writes, fault_text};
 
@@ -12,20 +12,20 @@ use crate::texts::write_fault;
 use crate::working::{load_into, share_into};
 use std::alloc::Global;
 
-/// Loads the program of an image and a helper table, 1 or 2, into a handle that holds nothing or a
-/// program. A fault leaves the handle as it was; of a refusal `place` is then the slot or the
-/// instruction.
+/// Loads the program of an image or a program file into a handle that holds nothing or a program. The
+/// helper table 1 or 2 is named by its number, and none by 0. A fault leaves the handle as it was; of a
+/// refused image `place` is then the slot or the instruction.
 #[unsafe(no_mangle)]
 pub extern "C" fn klog_c_load(
     alloc: Global,
-    image: &[u8],
+    bytes: &[u8],
     table: u32,
     program: &mut Handle,
     place: &mut usize,
 ) -> u32
-    ensures { Loads (program_with image.now table) program.old.place.object program.new.place.object place.old place.new result }
+    ensures { Loads (given_with bytes.now table) program.old.place.object program.new.place.object place.old place.new result }
 {
-    load_into(alloc, image, table, program, place)
+    load_into(alloc, bytes, table, program, place)
 }
 
 /// Writes the text of a fault at the front of a buffer, and its length, also where the buffer is too
@@ -56,20 +56,20 @@ pub extern "C" fn klog_c_share(alloc: Global, program: &mut Handle, other: &mut 
     number
 }
 
-/// Explains why the verifier accepts or refuses the program of an image and a helper table, 1 or 2,
-/// into a handle that holds nothing or a text: the instructions, or those alone that lead to the
-/// refused one, each with what is known before it.
+/// Explains why the verifier accepts or refuses the program of an image or a program file into a handle
+/// that holds nothing or a text: the instructions, or those alone that lead to the refused one, each with
+/// what is known before it. The helper table is named as for `klog_c_load`.
 #[unsafe(no_mangle)]
 pub extern "C" fn klog_c_explain(
     alloc: Global,
-    image: &[u8],
+    bytes: &[u8],
     table: u32,
     is_refused_alone: bool,
     text: &mut Handle,
 ) -> u32
-    ensures { Explained (program_with image.now table) is_refused_alone text.old.place.object text.new.place.object result }
+    ensures { Explained (given_with bytes.now table) is_refused_alone text.old.place.object text.new.place.object result }
 {
-    explain_into(alloc, image, table, is_refused_alone, text)
+    explain_into(alloc, bytes, table, is_refused_alone, text)
 }
 
 /// Copies a text to the front of a buffer, and tells its length, also where the buffer is too short.

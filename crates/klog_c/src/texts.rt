@@ -48,6 +48,10 @@ fn name_of(number: u32) -> &'static str
         307 => "B7 Count",
         308 => "B8 Record",
         309 => "B9 Timestamp",
+        401 => "G1 Short",
+        402 => "G2 Version",
+        403 => "G3 Table",
+        404 => "G4 Lines",
         _ => "no fault",
     }
 }

@@ -2,14 +2,16 @@
 
 ghost use Rattle.std.specs.Prelude.{◌≡◌, Some, Ok, IfOk};
 ghost use Rattle.wire_spec.specs.RecordSpelling.{RecordFits};
-ghost use Rattle.machine_spec.specs.Image.{program_of};
+ghost use Rattle.wire_spec.specs.Memory.{AnswersAs};
+ghost use Rattle.program_file.specs.Choice.{given_program, program_in};
+ghost use Rattle.program_file.specs.declared.fault.FileFault.TheVariants as file_fault;
 ghost use Rattle.machine_spec.specs.Meaning.{IsPlace};
 ghost use Rattle.c_outcomes.specs.Outcomes.{found};
 ghost use Rattle.klog_c.specs.Calls as definitions;
 ghost use Rattle.klog_c.specs.Numbers as numbers;
 ghost use Rattle.log_item.specs.Programs.{ProgramIs};
 
-use crate::faults::{MEMORY, RANGE, refusal_told};
+use crate::faults::{MEMORY, RANGE, file_number, refusal_told};
 use crate::filling::fill;
 use crate::handle::Handle;
 use crate::object::Object;
@@ -17,29 +19,40 @@ use crate::shared::Shared;
 use bytes::Bytes;
 use log_item::Program;
 use machine_spec::{IsaFault, Place, Table};
+use program_file::{FileFault, GivenProgram, given_program};
 use std::alloc::Global;
 use verifier_spec::LoadFault;
 use wire_spec::Record;
 
-/// The helper table with a number.
-pub(crate) fn table_with_number(number: u32) -> Option<Table>
+/// The helper table that a number names: none by 0. `None` where the number is out of its range.
+pub(crate) fn table_with_number(number: u32) -> Option<Option<Table>>
     ensures { result ≡ definitions.table_with_number number }
 {
     match number {
-        1 => Some(Table::One),
-        2 => Some(Table::Two),
+        0 => Some(None),
+        1 => Some(Some(Table::One)),
+        2 => Some(Some(Table::Two)),
         _ => None,
     }
 }
 
-/// The program of an image and a helper table, or its refusal.
-fn loaded(alloc: Global, image: &[u8], table: Table) -> Result<Shared, LoadFault>
-    ensures { ProgramIs (program_of image.now table) result }
+/// The program that bytes are, by the helper table that is named, if one is.
+pub(crate) fn given_of(
+    alloc: Global,
+    bytes: &[u8],
+    named: Option<Table>,
+) -> Result<GivenProgram, FileFault>
+    ensures { AnswersAs file_fault.Memory (λ p. p) result (given_program named bytes.now) }
 {
-    let Ok(image) = Bytes::copy_from_slice(alloc, image) else {
-        return Err(LoadFault::Isa(IsaFault::Memory));
-    };
-    let program = Program::new(alloc, &image, table)?;
+    let bytes = Bytes::copy_from_slice(alloc, bytes)?;
+    given_program(alloc, named, bytes)
+}
+
+/// A program that was given, or its refusal.
+fn loaded(alloc: Global, given: &GivenProgram) -> Result<Shared, LoadFault>
+    ensures { ProgramIs (program_in given.now) result }
+{
+    let program = Program::new(alloc, &given.image, given.table)?;
     Shared::new(alloc, program).map_err(|_| LoadFault::Isa(IsaFault::Memory))
 }
 
@@ -55,22 +68,37 @@ fn tell_refusal(fault: LoadFault, place: &mut usize) -> u32
     number
 }
 
-/// Puts the program of an image and the helper table with a number into a handle.
+/// Puts a program that was given into a handle.
+fn put_given(
+    alloc: Global,
+    given: &GivenProgram,
+    program: &mut Handle,
+    place: &mut usize,
+) -> u32
+    ensures { definitions.LoadsProgram (program_in given.now) program.old.place.object program.new.place.object place.old place.new result }
+{
+    match loaded(alloc, given) {
+        Ok(shared) => fill(alloc, program, Object::Program(shared)),
+        Err(fault) => tell_refusal(fault, place),
+    }
+}
+
+/// Puts the program that bytes are into a handle, by the helper table that a number names, if it names one.
 pub(crate) fn load_into(
     alloc: Global,
-    image: &[u8],
+    bytes: &[u8],
     number: u32,
     program: &mut Handle,
     place: &mut usize,
 ) -> u32
-    ensures { definitions.Loads (definitions.program_with image.now number) program.old.place.object program.new.place.object place.old place.new result }
+    ensures { definitions.Loads (definitions.given_with bytes.now number) program.old.place.object program.new.place.object place.old place.new result }
 {
-    let Some(table) = table_with_number(number) else {
+    let Some(named) = table_with_number(number) else {
         return RANGE;
     };
-    match loaded(alloc, image, table) {
-        Ok(shared) => fill(alloc, program, Object::Program(shared)),
-        Err(fault) => tell_refusal(fault, place),
+    match given_of(alloc, bytes, named) {
+        Ok(given) => put_given(alloc, &given, program, place),
+        Err(fault) => file_number(fault),
     }
 }
 

@@ -1,8 +1,9 @@
 -- The program that a user gives: an image, or a program file, and perhaps a helper table beside it.
-use Rattle.std.specs.Prelude.{ℕ, Bool, true, ◌==◌, if◌then◌else◌, List, [], Option, Some, None, unwrap_or}
-use Rattle.std.specs.Prelude.{Result, Ok, Err}
-use Rattle.machine_spec.specs.declared.helper.Table.{Table}
-use Rattle.program_file.specs.declared.{file.ProgramFile.ProgramFile, fault.FileFault.FileFault}
+use Rattle.std.specs.Prelude.{ℕ, Bool, true, ◌==◌, nat_le, if◌then◌else◌, List, [], ◌∷◌, Option, Some, None}
+use Rattle.std.specs.Prelude.{unwrap_or, Result, Ok, Err}
+use Rattle.std.specs.Option.{option_or}
+use Rattle.machine_spec.specs.{declared.helper.Table.Table, Image.Program, Image.program_of}
+use Rattle.program_file.specs.declared.{file.Place.Place, file.ProgramFile.ProgramFile, fault.FileFault.FileFault}
 use Rattle.program_file.specs.declared.choice.GivenProgram.{GivenProgram}
 use Rattle.program_file.specs.declared.fault.FileFault.TheVariants as fault
 use Rattle.program_file.specs.Reading.{is_program_file, read_file}
@@ -43,3 +44,18 @@ image_program named image = record { table = unwrap_or named Table.One; image = 
 abbrev pub given_program : Option Table → List ℕ → Result GivenProgram FileFault
 given_program named bytes = if is_program_file bytes then file_program named (read_file bytes)
     else Ok (image_program named bytes)
+
+-- the program of the image and the table that were given
+abbrev pub program_in : GivenProgram → Program
+program_in given = program_of given.image given.table
+
+-- ---- where instructions come from
+
+-- what a place says, if it is one of a slot up to this one
+abbrev pub text_up_to : ℕ → Place → Option (List ℕ)
+text_up_to slot place = if nat_le place.slot slot then Some place.text else None
+
+-- what the last of places says that is one of a slot up to this one
+abbrev pub place_at : ℕ → List Place → Option (List ℕ)
+place_at slot [] = None
+place_at slot (place ∷ places) = option_or (place_at slot places) (text_up_to slot place)

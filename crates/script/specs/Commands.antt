@@ -28,14 +28,15 @@ abbrev pub partitions_line : List (List ℕ) → Option Command
 partitions_line words = if length words == 4 then partitions_of (decimal_of (word_at words 1))
     (decimal_of (word_at words 2)) (decimal_of (word_at words 3)) else None
 
--- the helper table of a load: the second where a fourth word is `2`, the first where there is none
-abbrev pub table_of : List (List ℕ) → Option Table
+-- the helper table that a load names: the second where a fourth word is `2`, and none where there is no fourth word;
+-- other words are no load
+abbrev pub table_of : List (List ℕ) → Option (Option Table)
 table_of words =
-    if length words == 3 then Some Table.One else
-    if length words == 4 && bytes_eq (word_at words 3) (codes "2") then Some Table.Two else None
+    if length words == 3 then Some None else
+    if length words == 4 && bytes_eq (word_at words 3) (codes "2") then Some (Some Table.Two) else None
 
--- the command, if its words name a helper table
-abbrev pub load_of : List ℕ → FileWord → Option Table → Option Command
+-- the command, if its words are those of a load
+abbrev pub load_of : List ℕ → FileWord → Option (Option Table) → Option Command
 load_of name source (Some table) = Some (Load name source table)
 load_of name source None = None
 

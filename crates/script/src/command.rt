@@ -27,7 +27,7 @@ impl Model for FileName {
     ghost view = { λ n. string_bytes n.text };
 }
 
-/// The word of a line that says where the image of a program is, or record batches are.
+/// The word of a line that says where a program is, or record batches are.
 #[derive(Drop)]
 pub enum FileWord {
     /// In the line itself.
@@ -41,8 +41,9 @@ pub enum FileWord {
 pub enum Command {
     /// The numbers of input and output partitions, and how many cells a log has.
     Partitions(u64, u64, u64),
-    /// Loads an image under a name, as a program of a helper table.
-    Load(RawName, FileWord, Table),
+    /// Loads the program of an image or a program file under a name. Fields: the name, where it is, and
+    /// the helper table that is named, if one is.
+    Load(RawName, FileWord, Option<Table>),
     /// Deploys a loaded program to an input partition.
     Deploy(u64, RawName),
     /// Appends one record to an input partition: its timestamp in milliseconds, its key and its
@@ -105,16 +106,16 @@ fn partitions(words: &[&str]) -> Option<Command>
     Some(Command::Partitions(inputs, outputs, cells))
 }
 
-/// The helper table that a load names: the first where it has no word for it.
-fn table_of(words: &[&str]) -> Option<Table>
+/// The helper table that a load names, if it has a word for it. `None` where its words are no load.
+fn table_of(words: &[&str]) -> Option<Option<Table>>
     ensures table { result ≡ table_of (texts words.now) }
     ensures long { IfSome result (λ _. 3 ≤ length words.now) }
 {
     if words.len() == 3 {
-        return Some(Table::One);
+        return Some(None);
     }
     if words.len() == 4 && word(words, 3) == "2" {
-        return Some(Table::Two);
+        return Some(Some(Table::Two));
     }
     None
 }

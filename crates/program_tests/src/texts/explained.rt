@@ -1,6 +1,6 @@
 //! What is explained of programs. All lines, reasons and causes are in `transcripts`.
 
-use explain::{Coverage, Diagnosis, explain_image, image_fault_text};
+use explain::{Coverage, Diagnosis, explain_image, image_fault_text, refusal_text};
 use machine_spec::{IsaFault, Table};
 use std::alloc::{AllocError, Global};
 use std::test::*;
@@ -27,19 +27,35 @@ refused: V7 RecordBounds at 0
 const REFUSAL: &str = "V7 RecordBounds at 0
 r1 (value+0) reaches byte 0 of the value, whose length may be as low as 0
 byte 0 of the value may be missing: check first that its length is at least 1; \
-a test of 32 bits, of two registers or of signed numbers says nothing of it";
+a test of 32 bits, of two registers or of signed numbers says nothing of it
+";
+
+/// The same where it is known from which line the instruction comes.
+const PLACED: &str = "V7 RecordBounds at 0
+route.c:7: r1 (value+0) reaches byte 0 of the value, whose length may be as low as 0
+byte 0 of the value may be missing: check first that its length is at least 1; \
+a test of 32 bits, of two registers or of signed numbers says nothing of it
+";
 
 /// The refusal of a program of as many slots as there may be.
 const GREAT: &str = "V4 Unset at 16382
 r9 is read and may hold nothing
-no path to here sets it: a variable is read before it is set";
+no path to here sets it: a variable is read before it is set
+";
 
-fn is_shown(alloc: Global, refusal: Option<Diagnosis>, shown: &str) -> bool {
+/// Whether a refusal at this slot is shown so, where this place is known or none is.
+fn is_shown_at(
+    alloc: Global,
+    refusal: Option<Diagnosis>,
+    slot: usize,
+    place: Option<&str>,
+    shown: &str,
+) -> bool {
     let Some(refusal) = refusal else {
         return false;
     };
-    match format!(in alloc; "{refusal}") {
-        Ok(text) => text.as_str() == shown,
+    match refusal_text(alloc, &refusal, place) {
+        Ok(text) => refusal.slot == slot && text.as_str() == shown,
         Err(_) => false,
     }
 }
@@ -47,7 +63,8 @@ fn is_shown(alloc: Global, refusal: Option<Diagnosis>, shown: &str) -> bool {
 fn is_explained(alloc: Global) -> bool {
     match explain_image(alloc, &UNSAFE, Table::One, Coverage::Refused) {
         Ok(explanation) => explanation.lines.as_str() == LINES
-            && is_shown(alloc, explanation.refusal, REFUSAL),
+            && is_shown_at(alloc, explanation.refusal, 0, None, REFUSAL)
+            && is_shown_at(alloc, explanation.refusal, 0, Some("route.c:7"), PLACED),
         Err(_) => false,
     }
 }
@@ -74,7 +91,7 @@ fn is_great_explained(alloc: Global) -> bool {
         return false;
     };
     match explain_image(alloc, &image, Table::One, Coverage::Refused) {
-        Ok(explanation) => is_shown(alloc, explanation.refusal, GREAT),
+        Ok(explanation) => is_shown_at(alloc, explanation.refusal, 16382, None, GREAT),
         Err(_) => false,
     }
 }

@@ -23,10 +23,13 @@ fn load_shown(
     alloc: Global,
     name: &str,
     source: &FileWord,
-    table: Table,
+    named: Option<Table>,
 ) -> Result<String, AllocError> {
     let source = source_shown(alloc, source)?;
-    format!(in alloc; "load {name} {source} {table:?}")
+    match named {
+        Some(table) => format!(in alloc; "load {name} {source} {table:?}"),
+        None => format!(in alloc; "load {name} {source}"),
+    }
 }
 
 /// An `append` as one text.
@@ -54,8 +57,8 @@ fn command_shown(alloc: Global, command: &Command) -> Result<String, AllocError>
         Command::Partitions(inputs, outputs, cells) => {
             format!(in alloc; "partitions {inputs} {outputs} {cells}")
         }
-        Command::Load(name, source, table) => {
-            load_shown(alloc, name.text.as_str(), source, *table)
+        Command::Load(name, source, named) => {
+            load_shown(alloc, name.text.as_str(), source, *named)
         }
         Command::Deploy(input, name) => format!(in alloc; "deploy {input} {}", name.text.as_str()),
         Command::Put(input, timestamp, key, value) => {
@@ -83,11 +86,11 @@ partitions 1 1 08 => none
 partitions 1 1 +8 => none
 partitions 1 1 0 => partitions 1 1 0
 partitions 1 1 => none
-load fwd f.bin => load fwd f.bin One
-load fwd hex: => load fwd hex [] One
-load fwd hex:00ff => load fwd hex [0, 255] One
-load fwd hex:00f => load fwd hex:00f One
-load fwd hex:00FF => load fwd hex:00FF One
+load fwd f.bin => load fwd f.bin
+load fwd hex: => load fwd hex []
+load fwd hex:00ff => load fwd hex [0, 255]
+load fwd hex:00f => load fwd hex:00f
+load fwd hex:00FF => load fwd hex:00FF
 load fwd f.bin 2 => load fwd f.bin Two
 load fwd hex:00ff 2 => load fwd hex [0, 255] Two
 load fwd f 1 => none
