@@ -34,7 +34,6 @@ pub struct Diagnosis {
     pub hint: Option<Hint>,
 }
 
-
 /// What the verifier knows of a program.
 #[derive(Debug, Drop)]
 pub struct Explanation {

@@ -74,12 +74,7 @@ fn extent_of(is_refused_alone: bool) -> Coverage
 }
 
 /// Puts what is explained of a program that was given into a handle.
-fn put_explanation(
-    alloc: Global,
-    given: &GivenProgram,
-    extent: Coverage,
-    text: &mut Handle,
-) -> u32
+fn put_explanation(alloc: Global, given: &GivenProgram, extent: Coverage, text: &mut Handle) -> u32
     ensures { definitions.ExplainsProgram (program_in given.now) extent text.old.place.object text.new.place.object result }
 {
     let explanation = explain_image(alloc, &given.image, given.table, extent);

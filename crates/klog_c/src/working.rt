@@ -69,12 +69,7 @@ fn tell_refusal(fault: LoadFault, place: &mut usize) -> u32
 }
 
 /// Puts a program that was given into a handle.
-fn put_given(
-    alloc: Global,
-    given: &GivenProgram,
-    program: &mut Handle,
-    place: &mut usize,
-) -> u32
+fn put_given(alloc: Global, given: &GivenProgram, program: &mut Handle, place: &mut usize) -> u32
     ensures { definitions.LoadsProgram (program_in given.now) program.old.place.object program.new.place.object place.old place.new result }
 {
     match loaded(alloc, given) {
