@@ -160,7 +160,7 @@ static uint8_t *some_batches(size_t *length)
 static uint32_t table(void)
 {
 	uint8_t choice = byte();
-	return choice < 240 ? KLOG_TABLE_ONE + choice % 2u : choice;
+	return choice < 200 ? KLOG_TABLE_ONE + choice % 2u : choice < 240 ? KLOG_TABLE_OWN : choice;
 }
 
 /* A length that no block has stands for a long one, which is refused before it is read. */
@@ -184,7 +184,7 @@ static uint32_t call_load(void)
 	uint8_t *image = some_image(&length);
 	uint32_t of = table();
 	bool is_null = chance(8), has_place = !chance(5);
-	size_t given = stated(length, 131072);
+	size_t given = stated(length, PTRDIFF_MAX);
 	klog_handle *to = handle(PROGRAM);
 	uint32_t fault = klog_load(is_null ? NULL : image, given, of, to, has_place ? &place : NULL);
 	free(image);

@@ -62,7 +62,7 @@ static uint64_t offset_of(uint8_t choice)
 /* Mostly numbers within their limits. */
 static struct input input_of(const uint8_t *data, size_t size)
 {
-	struct input it = {.table = data[2] < 200 ? 1u + data[2] % 2u : data[2],
+	struct input it = {.table = data[2] < 200 ? 1u + data[2] % 2u : data[2] < 240 ? KLOG_TABLE_OWN : data[2],
 			   .refused = data[7],
 			   .refuses_all = data[8] & 1,
 			   .explains = data[8] & 2,
@@ -96,7 +96,12 @@ static bool is_refused(const char *call, uint32_t fault, klog_handle before, klo
 
 static bool is_known_table(uint32_t table)
 {
-	return table == KLOG_TABLE_ONE || table == KLOG_TABLE_TWO;
+	return table == KLOG_TABLE_OWN || table == KLOG_TABLE_ONE || table == KLOG_TABLE_TWO;
+}
+
+static bool is_file_fault(uint32_t fault)
+{
+	return fault > KLOG_FILE && fault <= KLOG_FILE + 4;
 }
 
 static void check_refused_load(const struct input *it, uint32_t fault, size_t place)
@@ -108,9 +113,10 @@ static void check_refused_load(const struct input *it, uint32_t fault, size_t pl
 			fail("load's table", it->table);
 		return;
 	}
-	if (!((fault > KLOG_IMAGE && fault <= KLOG_IMAGE + 6) || (fault > KLOG_VERIFIER && fault <= KLOG_VERIFIER + 13)))
+	if (!((fault > KLOG_IMAGE && fault <= KLOG_IMAGE + 6) || (fault > KLOG_VERIFIER && fault <= KLOG_VERIFIER + 13) ||
+	      is_file_fault(fault)))
 		fail("load", fault);
-	if (place > it->image_length / 8)
+	if (is_file_fault(fault) ? place != MARK : place > it->image_length / 8)
 		fail("load's place", place);
 	if (klog_fault_text(fault, place, text, sizeof text, &length))
 		fail("the text of a fault", fault);
@@ -147,6 +153,8 @@ static void explain(const struct input *it, bool is_accepted)
 	klog_handle text = KLOG_NOTHING;
 	size_t length = 0;
 	uint32_t fault = klog_explain(it->image, it->image_length, it->table, it->explains_alone, &text);
+	if (is_file_fault(fault) && !is_accepted)
+		return;
 	if (fault || klog_text(&text, NULL, 0, &length) != KLOG_ROOM)
 		fail("explain", fault);
 	char *copy = malloc(length);

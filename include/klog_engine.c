@@ -4,6 +4,7 @@
 #include "klog_engine.h"
 
 #include <stdbool.h>
+#include <string.h>
 
 /* As `Asked` of crates/klog_c. */
 struct asked {
@@ -22,7 +23,7 @@ struct source {
 	uint64_t limit;
 };
 
-uint32_t klog_c_load(const uint8_t *image, size_t length, uint32_t table, klog_handle *program, size_t *place);
+uint32_t klog_c_load(const uint8_t *bytes, size_t length, uint32_t table, klog_handle *program, size_t *place);
 uint32_t klog_c_fault_text(uint32_t fault, size_t place, uint8_t *buffer, size_t room, size_t *length);
 uint32_t klog_c_share(klog_handle *program, klog_handle *other);
 uint32_t klog_c_add_header(klog_handle *headers, const uint8_t *key, size_t key_length, const uint8_t *value,
@@ -42,7 +43,7 @@ uint32_t klog_c_emission_value(klog_handle *outcome, size_t number, uint8_t *buf
 uint32_t klog_c_emission_header(klog_handle *outcome, size_t number, size_t at, klog_header *header);
 uint32_t klog_c_emission_header_key(klog_handle *outcome, size_t number, size_t at, uint8_t *buffer, size_t room);
 uint32_t klog_c_emission_header_value(klog_handle *outcome, size_t number, size_t at, uint8_t *buffer, size_t room);
-uint32_t klog_c_explain(const uint8_t *image, size_t length, uint32_t table, bool is_refused_alone,
+uint32_t klog_c_explain(const uint8_t *bytes, size_t length, uint32_t table, bool is_refused_alone,
 			klog_handle *text);
 uint32_t klog_c_text(klog_handle *text, uint8_t *buffer, size_t room, size_t *length);
 void klog_c_free(klog_handle *handle);
@@ -50,7 +51,7 @@ void klog_c_free(klog_handle *handle);
 /* The longest image: 16,384 slots of 8 bytes. */
 static const size_t longest_image = 131072;
 
-/* The longest file that is explained, an image or not. */
+/* The longest file that is explained. */
 static const size_t longest_file = 1048576;
 
 /* The fault I1. */
@@ -78,7 +79,14 @@ static uint32_t reading_fault(const klog_handle *handle, const void *told)
 
 static bool is_table(uint32_t table)
 {
-	return table == KLOG_TABLE_ONE || table == KLOG_TABLE_TWO;
+	return table == KLOG_TABLE_OWN || table == KLOG_TABLE_ONE || table == KLOG_TABLE_TWO;
+}
+
+/* Bytes that begin as a program file, as those of no image do. */
+static bool is_program_file(const uint8_t *bytes, size_t length)
+{
+	static const uint8_t mark[] = {'K', 'L', 'O', 'G'};
+	return length >= sizeof mark && !memcmp(bytes, mark, sizeof mark);
 }
 
 static bool is_no_buffer(const void *bytes, size_t length)
@@ -94,19 +102,19 @@ static uint32_t buffer_fault(const void *buffer, size_t room)
 	return room > longest_buffer ? KLOG_RANGE : KLOG_OK;
 }
 
-uint32_t klog_load(const uint8_t *image, size_t length, uint32_t table, klog_handle *program, size_t *place)
+uint32_t klog_load(const uint8_t *bytes, size_t length, uint32_t table, klog_handle *program, size_t *place)
 {
-	if (!program || !place || is_no_buffer(image, length))
+	if (!program || !place || is_no_buffer(bytes, length))
 		return KLOG_NULL;
 	if (is_foreign(program))
 		return KLOG_KIND;
 	if (!is_table(table))
 		return KLOG_RANGE;
-	if (length > longest_image) {
+	if (length > longest_buffer || (length > longest_image && !is_program_file(bytes, length))) {
 		*place = 0;
 		return size_fault;
 	}
-	return klog_c_load(image ? image : no_bytes, length, table, program, place);
+	return klog_c_load(bytes ? bytes : no_bytes, length, table, program, place);
 }
 
 uint32_t klog_fault_text(uint32_t fault, size_t place, char *buffer, size_t room, size_t *length)
@@ -292,15 +300,15 @@ uint32_t klog_output_batches(const klog_handle *batches, size_t number, uint8_t 
 	return klog_c_output_batches(&from, number, buffer ? buffer : no_bytes, room);
 }
 
-uint32_t klog_explain(const uint8_t *image, size_t length, uint32_t table, int is_refused_alone, klog_handle *text)
+uint32_t klog_explain(const uint8_t *bytes, size_t length, uint32_t table, int is_refused_alone, klog_handle *text)
 {
-	if (!text || is_no_buffer(image, length))
+	if (!text || is_no_buffer(bytes, length))
 		return KLOG_NULL;
 	if (is_foreign(text))
 		return KLOG_KIND;
 	if (length > longest_file)
 		return KLOG_RANGE;
-	return klog_c_explain(image ? image : no_bytes, length, table, is_refused_alone != 0, text);
+	return klog_c_explain(bytes ? bytes : no_bytes, length, table, is_refused_alone != 0, text);
 }
 
 uint32_t klog_text(const klog_handle *text, char *buffer, size_t room, size_t *length)

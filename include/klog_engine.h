@@ -1,7 +1,8 @@
 /* klog's engine as a library: load an eBPF program once, run it on record batches or on single records.
  *
- * A program is loaded from its image, as `klog asm` or `tools/klogc/klogc` makes it. A load accepts exactly the
- * images that the verifier accepts, and what it accepts runs without a trap, within as many instructions as it
+ * A program is loaded from its image, as `klog asm` or `tools/klogc/klogc` makes it, or from a program file, which
+ * begins with the bytes KLOG and has the image's helper table beside it (docs/machine.md). A load accepts exactly
+ * the images that the verifier accepts, and what it accepts runs without a trap, within as many instructions as it
  * has, and reads nothing but its record and its stack. docs/library.md says what is proved of a call, and what
  * the caller owes.
  *
@@ -20,7 +21,7 @@
  * Memory. Handles and buffers of one call do not overlap. The memory of what a handle holds comes from malloc,
  * realloc and free. A length above PTRDIFF_MAX, which no memory has, is KLOG_LENGTH of a header or a record, and
  * KLOG_RANGE of other bytes: after KLOG_NULL and the KLOG_KIND of a handle that the library did not fill, and before
- * all else. Of an image it is 101. */
+ * all else. Of what klog_load is given it is 101. */
 #ifndef KLOG_ENGINE_H
 #define KLOG_ENGINE_H
 
@@ -33,7 +34,8 @@ extern "C" {
 
 /* What a call returns. Of a refused image it is 101 to 106, the faults I1 to I6, at a slot of 8 bytes of the
  * image, or 201 to 213, the faults V1 to V13, at an instruction. Of a refused record batch it is 301 to 309, the
- * faults B1 to B9. docs/faults.md has their causes and cures. */
+ * faults B1 to B9, and of a refused program file 401 to 404, the faults G1 to G4. docs/faults.md has their causes and
+ * cures. */
 enum {
 	KLOG_OK = 0,
 	KLOG_MEMORY = 1, /* memory ran out */
@@ -47,15 +49,17 @@ enum {
 	KLOG_LIMIT = 9,  /* the rows take more bytes than the caller's limit */
 	KLOG_IMAGE = 100,
 	KLOG_VERIFIER = 200,
-	KLOG_BATCH = 300
+	KLOG_BATCH = 300,
+	KLOG_FILE = 400
 };
 
 /* Bits of klog_emission.nulls and of klog_header.nulls. */
 enum { KLOG_NULL_KEY = 1, KLOG_NULL_VALUE = 2 };
 
 /* The helper tables of programs: what a program calls by number is a helper of its table. Table 1 has the helpers 1
- * to 9, table 2 those and 10 to 12, which read headers. */
-enum { KLOG_TABLE_ONE = 1, KLOG_TABLE_TWO = 2 };
+ * to 9, table 2 those and 10 to 12, which read headers. KLOG_TABLE_OWN is the table that a program file has, which may
+ * be table 3 with the helpers 1 to 21; of an image it is table 1. Another one must be the file's own. */
+enum { KLOG_TABLE_OWN = 0, KLOG_TABLE_ONE = 1, KLOG_TABLE_TWO = 2 };
 
 /* The version of this header: 1,000 times the major number and the minor one, so 0.2. Later versions with the same
  * major number keep what is here. */
@@ -137,12 +141,13 @@ typedef struct klog_header {
 	uint32_t nulls;      /* KLOG_NULL_VALUE, or 0 */
 } klog_header;
 
-/* Loads the image of `length` bytes, by a helper table, into `program`, which holds nothing or a program; that one
- * is freed. A refused image is 101 to 106 or 201 to 213, and `*place` is then its slot or its instruction; else
- * `*place` is as it was. KLOG_KIND: `program` holds something else. KLOG_RANGE: there is no such table. KLOG_NULL:
- * `program` or `place` is null, or `image` is null and `length` is not 0. KLOG_MEMORY. An image of more than 131,072
- * bytes is 101, and is not read. */
-uint32_t klog_load(const uint8_t *image, size_t length, uint32_t table, klog_handle *program, size_t *place);
+/* Loads the image or the program file of `length` bytes, by a helper table, into `program`, which holds nothing or a
+ * program; that one is freed. A refused image is 101 to 106 or 201 to 213, and `*place` is then its slot or its
+ * instruction; else `*place` is as it was. A refused program file is 401 to 404; 403, if its table is not the one that
+ * was given. KLOG_KIND: `program` holds something else. KLOG_RANGE: there is no such table. KLOG_NULL: `program` or
+ * `place` is null, or `bytes` is null and `length` is not 0. KLOG_MEMORY. Of an image of more than 131,072 bytes, which
+ * is 101, the first four bytes alone are read. */
+uint32_t klog_load(const uint8_t *bytes, size_t length, uint32_t table, klog_handle *program, size_t *place);
 
 /* Writes the text of a fault as `klog` prints it ("I3 Register slot 0", "V7 RecordBounds at 2") to the front of a
  * buffer of `room` bytes, with no zero byte at its end, and its length to `*length`. `place` is what klog_load
@@ -236,11 +241,12 @@ uint32_t klog_emission_header(const klog_handle *outcome, size_t number, size_t 
 uint32_t klog_emission_header_key(const klog_handle *outcome, size_t number, size_t at, uint8_t *buffer, size_t room);
 uint32_t klog_emission_header_value(const klog_handle *outcome, size_t number, size_t at, uint8_t *buffer, size_t room);
 
-/* Explains why the verifier accepts or refuses an image by a helper table, as `klog explain` prints it, into `text`,
- * which holds nothing or a text; that one is freed. Where `is_refused_alone` is not 0, only the instructions that
- * lead to the refused one are listed. KLOG_KIND: `text` holds something else. KLOG_NULL: `text` is null, or `image`
- * is null and `length` is not 0. KLOG_RANGE: there is no such table, or `length` is above 1,048,576. KLOG_MEMORY. */
-uint32_t klog_explain(const uint8_t *image, size_t length, uint32_t table, int is_refused_alone, klog_handle *text);
+/* Explains why the verifier accepts or refuses an image or a program file by a helper table, as `klog explain` prints
+ * it, into `text`, which holds nothing or a text; that one is freed. Where `is_refused_alone` is not 0, only the
+ * instructions that lead to the refused one are listed. A refused program file is 401 to 404. KLOG_KIND: `text` holds
+ * something else. KLOG_NULL: `text` is null, or `bytes` is null and `length` is not 0. KLOG_RANGE: there is no such
+ * table, or `length` is above 1,048,576. KLOG_MEMORY. */
+uint32_t klog_explain(const uint8_t *bytes, size_t length, uint32_t table, int is_refused_alone, klog_handle *text);
 
 /* Copies a text to the front of a buffer of `room` bytes, with no zero byte at its end, and its length to `*length`.
  * KLOG_ROOM: the buffer is too short; `*length` is what it needs. KLOG_KIND: `text` holds no text. KLOG_NULL: `text`

@@ -114,9 +114,10 @@ class Engine:
 
 
 class Program:
-    """A loaded program of a helper table, for one thread, which a `with` statement frees."""
+    """A loaded program of an image or a program file, for one thread, which a `with` statement frees. By table 0 a file has
+    its own helper table, and an image table 1."""
 
-    def __init__(self, engine, image, table=1):
+    def __init__(self, engine, image, table=0):
         self.engine, self.library = engine, engine.library
         self.program, self.outcome, self.record, self.emission = Handle(), Handle(), Record(), Emission()
         self.batches, self.source, self.stop, self.counts = Handle(), Source(), Stop(), Counts()

@@ -118,13 +118,13 @@ static void look(const char *call, uint32_t fault, const klog_handle *before, co
 
 static bool is_table(uint32_t table)
 {
-	return table == KLOG_TABLE_ONE || table == KLOG_TABLE_TWO;
+	return table == KLOG_TABLE_OWN || table == KLOG_TABLE_ONE || table == KLOG_TABLE_TWO;
 }
 
-/* Mostly the number of a helper table. */
+/* Mostly the number of a helper table, or of a file's own. */
 static uint32_t table(struct worker *w)
 {
-	return one_in(w, 20) ? (uint32_t)number(w) : KLOG_TABLE_ONE + (uint32_t)below(w, 2);
+	return one_in(w, 20) ? (uint32_t)number(w) : KLOG_TABLE_OWN + (uint32_t)below(w, 3);
 }
 
 static bool is_image_fault(uint32_t fault)
@@ -132,20 +132,46 @@ static bool is_image_fault(uint32_t fault)
 	return (fault >= 101 && fault <= 106) || (fault >= 201 && fault <= 213);
 }
 
+static bool is_file_fault(uint32_t fault)
+{
+	return fault >= 401 && fault <= 404;
+}
+
+/* Makes an image a program file of a table, with a line for its first slot where the image has one. The room of
+ * FILE_ROOM bytes is after it. Returns its length. */
+enum { FILE_ROOM = 32 };
+static size_t as_file(uint8_t *bytes, size_t length, uint32_t of)
+{
+	static const uint8_t head[] = {'K', 'L', 'O', 'G', 1, 0, 0, 0};
+	static const char line[] = "0 a.c:1\n";
+	size_t told = length >= 8 ? sizeof line - 1 : 0;
+	memmove(bytes + 16, bytes, length);
+	memcpy(bytes, head, sizeof head);
+	for (unsigned k = 0; k < 4; k++) {
+		bytes[8 + k] = (uint8_t)(of >> 8 * k);
+		bytes[12 + k] = (uint8_t)(length >> 8 * k);
+	}
+	memcpy(bytes + 16 + length, line, told);
+	return 16 + length + told;
+}
+
 static void load(struct worker *w)
 {
 	const struct image *from = &images[below(w, image_count)];
 	size_t length = one_in(w, 4) ? length_below(w, LONGEST) : from->length, place = MARK;
-	uint8_t *bytes = block(w, length);
+	uint8_t *bytes = block(w, length + FILE_ROOM);
 	if (!one_in(w, 8))
 		memcpy(bytes, from->bytes, length < from->length ? length : from->length);
+	if (one_in(w, 3))
+		length = as_file(bytes, length, (uint32_t)below(w, 4));
 	for (uint64_t k = below(w, 3); k && length; k--)
 		bytes[below(w, length)] ^= (uint8_t)(1u << below(w, 8));
 	klog_handle *to = handle(w, PROGRAMS), before = to ? *to : (klog_handle)KLOG_NOTHING;
 	uint32_t of = table(w);
 	uint32_t fault = klog_load(one_in(w, 40) ? NULL : bytes, length, of, to, one_in(w, 40) ? NULL : &place);
 	look("load", fault, &before, to);
-	if (fault == KLOG_RANGE ? is_table(of) : fault > KLOG_KIND && fault != KLOG_NULL && !is_image_fault(fault))
+	if (fault == KLOG_RANGE ? is_table(of)
+				: fault > KLOG_KIND && fault != KLOG_NULL && !is_image_fault(fault) && !is_file_fault(fault))
 		fail("load", fault);
 	if (is_image_fault(fault) ? place > 16384 : place != MARK)
 		fail("load's place", fault);
@@ -154,7 +180,7 @@ static void load(struct worker *w)
 
 static void fault_text(struct worker *w)
 {
-	static const uint32_t faults[] = {0, 1, 2, 3, 4, 5, 6, 7, 8, 9, 101, 102, 106, 107, 201, 213, 214, 301, 308, 309, 310};
+	static const uint32_t faults[] = {0, 1, 2, 3, 4, 5, 6, 7, 8, 9, 101, 102, 106, 107, 201, 213, 214, 301, 308, 309, 310, 401, 404, 405};
 	size_t room = below(w, 80), length = 0;
 	char *text = (char *)block(w, room);
 	uint32_t of = one_in(w, 3) ? (uint32_t)number(w) : faults[below(w, sizeof faults / sizeof faults[0])];
@@ -366,15 +392,18 @@ static void explain(struct worker *w)
 		return;
 	const struct image *from = &images[below(w, image_count)];
 	size_t length = one_in(w, 4) ? length_below(w, LONGEST) : from->length, told = 0;
-	uint8_t *bytes = block(w, length);
+	uint8_t *bytes = block(w, length + FILE_ROOM);
 	memcpy(bytes, from->bytes, length < from->length ? length : from->length);
+	if (one_in(w, 3))
+		length = as_file(bytes, length, (uint32_t)below(w, 4));
 	if (length && one_in(w, 2))
 		bytes[below(w, length)] ^= (uint8_t)(1u << below(w, 8));
 	klog_handle *text = handle(w, TEXTS), before = text ? *text : (klog_handle)KLOG_NOTHING;
 	uint32_t of = table(w);
 	uint32_t fault = klog_explain(bytes, length, of, (int)below(w, 2), text);
 	look("explain", fault, &before, text);
-	if (fault == KLOG_RANGE ? is_table(of) : fault != KLOG_OK && fault != (text ? KLOG_KIND : KLOG_NULL))
+	if (fault == KLOG_RANGE ? is_table(of)
+				: fault != KLOG_OK && fault != (text ? KLOG_KIND : KLOG_NULL) && !is_file_fault(fault))
 		fail("explain", fault);
 	size_t room = below(w, 8000);
 	char *buffer = (char *)block(w, room);

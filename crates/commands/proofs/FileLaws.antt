@@ -6,7 +6,7 @@ use Rattle.std.specs.{declared.string.String.String}
 use Rattle.std.proofs.{lemmas.Bool.cases_lt, lemmas.Bool.cases_eq, lemmas.List.Elements.All-push}
 use Rattle.std.proofs.lemmas.List.{get_or_append_left, get_or_push, length_push, length-map, take-append-drop}
 use Rattle.wire_spec.specs.declared.record.Batch.{Batch}
-use Rattle.machine_spec.specs.{Image.Program, Image.program_of, declared.helper.Table.Table}
+use Rattle.machine_spec.specs.Image.{Program}
 use Rattle.log_spec.specs.declared.row.Row.{Row}
 use Rattle.batch.specs.{Batches.AreBatches, Streams.Open}
 use Rattle.batch_reader.specs.declared.reader.ReadFault.TheVariants as read
@@ -21,16 +21,15 @@ use Rattle.transform.specs.Outlets.{Outflow, outflow, WroteBatches, IsTooMany}
 use Rattle.transform.specs.Transforms.{Flow, flow, none_counted, output_at, AreRows, AreRowsOfALog}
 use Rattle.transform.specs.Transforms.{Finished, Broken}
 use Rattle.script.specs.Words.{word_at}
-use Rattle.commands.specs.declared.{halts.Halt.Halt, status.Status.Status, status.Status.TheVariants.Failed}
-use Rattle.commands.specs.declared.halts.Halt.TheVariants as halt
+use Rattle.commands.specs.declared.{status.Status.Status, status.Status.TheVariants.Failed}
 use Rattle.command_line.specs.Calls.{names_of}
 use Rattle.commands.specs.declared.endpoint.Endpoint.{Endpoint}
 use Rattle.commands.specs.FileTransforms.{KeepsOthers, HasRows, IsFresh, HasWritten, HaveWritten, StreamsAs, Overfills}
-use Rattle.commands.specs.FileTransforms.{KeepsIfRefused, CallWrites, CallLeaves, EndsAt, IsLoaded, IsUnloaded}
-use Rattle.commands.specs.FileTransforms.{status_of, status_of_halt, keeps_rows, KeepsOrParts, KeepsSources, IsApart}
+use Rattle.commands.specs.FileTransforms.{EndsAt}
+use Rattle.commands.specs.FileTransforms.{status_of, keeps_rows, KeepsOrParts, KeepsSources, IsApart}
 use Rattle.commands.specs.FileTransforms.{AreApart, AreOldOrWritten, IsOldOrWritten, HasSame, HaveSame, EndsFiles}
 use Rattle.commands.specs.FileTransforms.{Leaves, Streams}
-use Rattle.commands.specs.{Files.KeepsAll, Files.word_of, Files.TellsOne, Images.first_bytes, Listings.source_of}
+use Rattle.commands.specs.{Files.KeepsAll, Files.word_of, Files.TellsOne}
 
 -- ---- All other files
 
@@ -469,53 +468,3 @@ pub wrote_none : (program : Program) (bytes : List ℕ) (names : List (List ℕ)
     {before after : List ℕ → Option (List ℕ)} → status ≡ Failed → KeepsAll before after →
     Streams program bytes names status before after
 wrote_none program bytes names status is_failed kept = (inl is_failed, λ output within. inl (kept _))
-
--- ---- The call
-
-module _ (table : Table) (names : List (List ℕ)) (before : List ℕ → Option (List ℕ)) (first : List ℕ)
-    (is : first ≡ word_at names 0) where
-  -- the image has a program, which is run on the bytes
-  module _ (stdin : Option (List ℕ)) (mid after : List ℕ → Option (List ℕ)) (status : Status) (program : Program)
-      (loaded : (image : List ℕ) → before first ≡ Some image →
-      IsLoaded (program_of (first_bytes image) table) (Ok program)) (kept : KeepsAll before mid)
-      (streams : (bytes : List ℕ) → source_of (word_at names 1) stdin (mid (word_at names 1)) ≡ Some bytes →
-      Streams program bytes names status mid after) where
-    pub called : CallWrites table names stdin before after status
-    called image bytes known source =
-        inr (rw (loaded image (rw is known)).0 at (streams bytes (rw kept source)).0)
-
-    pub called_leaves : CallLeaves table names stdin before after
-    called_leaves image bytes known source output within =
-        rw ((loaded image (rw is known)).0, kept (word_at names (output + 2))) at
-        ((streams bytes (rw kept source)).1 output within)
-
-  -- so it is not refused
-  pub not_refused : (after : List ℕ → Option (List ℕ)) (program : Program) →
-      ((image : List ℕ) → before first ≡ Some image →
-      IsLoaded (program_of (first_bytes image) table) (Ok program)) → KeepsIfRefused table names before after
-  not_refused after program loaded image fault known refused =
-      absurd (refused.not_accepted (loaded image (rw is known)).1)
-
-  -- the image has none
-  pub uncalled : (stdin : Option (List ℕ)) (after : List ℕ → Option (List ℕ)) (halted : Halt) →
-      ((image : List ℕ) → before first ≡ Some image → IsUnloaded (program_of (first_bytes image) table) halted) →
-      CallWrites table names stdin before after (status_of_halt halted)
-  uncalled stdin after (halt.Image fault) refused image bytes known source =
-      inl (fault, refused image (rw is known), refl)
-  uncalled stdin after (halt.File word) refused image bytes known source = inr (inl refl)
-  uncalled stdin after halt.Memory refused image bytes known source = inr (inl refl)
-  uncalled stdin after other refused image bytes known source = absurd (refused image (rw is known))
-
--- a call that changes no file
-pub left_all : (table : Table) (names : List (List ℕ)) (stdin : Option (List ℕ))
-    (before after : List ℕ → Option (List ℕ)) → KeepsAll before after → CallLeaves table names stdin before after
-left_all table names stdin before after kept image bytes is source output within = inl (kept _)
-
--- the status that is answered may be that there was no memory to say why
-pub told_as : (table : Table) (names : List (List ℕ)) (stdin : Option (List ℕ))
-    (before after : List ℕ → Option (List ℕ)) (status told : Status) →
-    CallWrites table names stdin before after status → (told ≡ status) ⊎ (told ≡ Failed) →
-    CallWrites table names stdin before after told
-told_as table names stdin before after status told does (inl same) = rw same does
-told_as table names stdin before after status told does (inr is_failed) =
-    λ image bytes known source. inr (inl is_failed)

@@ -1,8 +1,10 @@
 pub mod AppendLaws
 pub mod Assembled
 pub mod BatchLaws
+pub mod CallLaws
 pub mod Checked
 pub mod FileLaws
+pub mod GivenLaws
 pub mod Kept
 pub mod Loaded
 pub mod Marks

@@ -1,33 +1,38 @@
 -- What is told of the programs of a list, line by line.
 use Rattle.std.proofs.Common.{◌≡◌, ◌⊎◌, ℕ, ◌+◌, ◌<◌, List, [], ◌∷◌, ◌++◌, length, take, drop, Result, Ok, Err, Option}
-use Rattle.std.proofs.Common.{Bool, true, false, ◌||◌, refl, sym, ap, subst, inr, ◌∙◌, append-nil, arith}
+use Rattle.std.proofs.Common.{Bool, true, false, ◌||◌, refl, sym, ap, subst, inl, inr, ◌∙◌, append-nil, arith}
 use Rattle.std.proofs.{Math.Path.fun_ext, lemmas.List.Folds.list_any-append, lemmas.Slice.Zip.all_zipped_more}
 use Rattle.std.proofs.{lemmas.Slice.Zip.AllZip-long, KnownBytes.Appends-nil, KnownBytes.Appends-trans}
 use Rattle.std.proofs.Math.Bool.{or-false}
 use Rattle.std.proofs.lemmas.List.{flat_map_more, drop_more, take_more, take-append-drop, length-take}
 use Rattle.std.specs.{List.AllZip, Result.is_err, Io.KnownBytes.Appends}
-use Rattle.machine_spec.specs.{Image.Program, Image.program_of, declared.helper.Table.Table}
+use Rattle.machine_spec.specs.declared.helper.Table.{Table}
+use Rattle.program_file.specs.declared.{fault.FileFault.FileFault, choice.GivenProgram.GivenProgram}
+use Rattle.program_file.specs.Choice.{program_in}
 use Rattle.verifier_spec.specs.{Loading.IsAccepted, Loading.IsRefusedWith, declared.fault.LoadFault.LoadFault}
 use Rattle.script.specs.{declared.command.FileWord.TheVariants.File, Words.word_at}
-use Rattle.commands.specs.declared.{host.Host.Host, run.Ended.Ended, stop.Stop.Stop, status.Status.Status}
+use Rattle.commands.specs.declared.{given.Ungiven.Ungiven, host.Host.Host, run.Ended.Ended, stop.Stop.Stop}
+use Rattle.commands.specs.declared.status.Status.{Status}
+use Rattle.commands.specs.declared.given.Ungiven.TheVariants as ungiven
 use Rattle.commands.specs.declared.status.Status.TheVariants.{Failed}
 use Rattle.commands.specs.declared.stop.Stop.TheVariants as stop
 use Rattle.commands.specs.{Appends.Prints, Files.KeepsAll, Hosts.KeepsInputs, Images.accepted_line}
-use Rattle.commands.specs.{Sessions.IsImageIn, Stops.IsUnwritten}
-use Rattle.commands.specs.Rechecks.{NamesProgram, Told, IsTold, ImageTells, StopsAt, LineTells, verdict_line}
+use Rattle.commands.specs.{Given.Gives, Given.IsGiven, Stops.IsUnwritten}
+use Rattle.commands.specs.Rechecks.{NamesProgram, Told, IsTold, ProgramTells, RefusesFile, StopsAt, LineTells}
+use Rattle.commands.specs.Rechecks.{verdict_line}
 use Rattle.commands.specs.Rechecks.{told_lines, has_refused, lines_of, Rechecks, status_of_list, RechecksAs}
 
 -- ---- one program
 
-pub accepted_told : (file text : List ℕ) (program : Program) (before after : Option (List ℕ))
-    (accepted : IsAccepted program) → text ≡ accepted_line (length accepted.code) →
-    Appends before after (file ++ (32 ∷ text)) → ImageTells file program before after (Ok false)
-accepted_told file text program before after accepted is printed =
+pub accepted_told : (file text : List ℕ) (given : GivenProgram) (before after : Option (List ℕ))
+    (accepted : IsAccepted (program_in given)) → text ≡ accepted_line (length accepted.code) →
+    Appends before after (file ++ (32 ∷ text)) → ProgramTells file (Ok given) before after (Ok false)
+accepted_told file text given before after accepted is printed =
     (Ok (length accepted.code), (accepted, refl), refl, rw is at printed)
 
-pub refused_told : (file : List ℕ) (program : Program) (before : Option (List ℕ)) (fault : LoadFault) →
-    IsRefusedWith program fault → ImageTells file program before before (Ok true)
-refused_told file program before fault is = (Err fault, is, refl, Appends-nil before)
+pub refused_told : (file : List ℕ) (given : GivenProgram) (before : Option (List ℕ)) (fault : LoadFault) →
+    IsRefusedWith (program_in given) fault → ProgramTells file (Ok given) before before (Ok true)
+refused_told file given before fault is = (Err (inr fault), is, refl, Appends-nil before)
 
 -- ---- one line
 
@@ -37,17 +42,32 @@ stops line before after stop.Output is = (tt, tt)
 stops line before after stop.Memory is = (tt, tt)
 stops line before after other is = absurd is
 
-pub line_told : (files : List ℕ → Option (List ℕ)) (line file image : List ℕ) (table : Table)
-    (before after : Option (List ℕ)) (result : Result Bool Stop) → NamesProgram line file table →
-    IsImageIn files (File file) image → ImageTells file (program_of image table) before after result →
+pub line_told : (files : List ℕ → Option (List ℕ)) (line file : List ℕ) (named : Option Table)
+    (given : Result GivenProgram FileFault) (before after : Option (List ℕ)) (result : Result Bool Stop) →
+    NamesProgram line file named → Gives files (File file) named given → ProgramTells file given before after result →
     LineTells files line before after result
-line_told files line file image table before after (Ok refused) names held (verdict, is, same, printed) = (
-  record { file = file; program = program_of image table; verdict = verdict },
-  record { names = names; image = held; verdict = is },
+line_told files line file named given before after (Ok refused) names (bytes, are, is) (verdict, says, same, put) = (
+  record { file = file; named = named; bytes = bytes; verdict = verdict },
+  record { names = names; bytes_are = are; verdict = rw is says },
   same,
-  printed,
+  put,
 )
-line_told files line file image table before after (Err reason) names held is = stops line before after reason is
+line_told files line file named given before after (Err reason) names gives is = stops line before after reason is
+
+-- the same of a line whose file gives no program
+pub file_refused : (files : List ℕ → Option (List ℕ)) (line file : List ℕ) (named : Option Table) (why : Ungiven)
+    (before : Option (List ℕ)) (result : Result Bool Stop) → NamesProgram line file named →
+    IsGiven files file named (Err why) → RefusesFile file why result → LineTells files line before before result
+file_refused files line file named (ungiven.File fault) before (Ok refused) names gives same =
+    line_told files line file named (Err fault) before before (Ok refused) names gives
+    (Err (inl fault), refl, same, Appends-nil before)
+file_refused files line file named (ungiven.File fault) before (Err reason) names gives is =
+    stops line before before reason is
+file_refused files line file named (ungiven.Unread cause) before (Err reason) names gives (inl memory) =
+    rw memory (tt, tt)
+file_refused files line file named (ungiven.Unread cause) before (Err reason) names gives (inr unread) =
+    rw unread ((named, names), Appends-nil before)
+file_refused files line file named (ungiven.Unread cause) before (Ok refused) names gives is = absurd is
 
 -- ---- the lines that are done
 
@@ -83,7 +103,7 @@ next_told {bytes = bytes} {contents = contents} {old = old} {now = now} {later =
       are_told = rw (take_more lines index [] within, ← here)
           (all_zipped_more (IsTold (bytes old.files)) (take index lines) so_far.told _ next so_far.are_told (record {
             names = is.names;
-            image = λ image known. is.image image (so_far.kept.files next.file ∙ known);
+            bytes_are = λ known there. is.bytes_are known (so_far.kept.files next.file ∙ there);
             verdict = is.verdict;
           }));
       refused_is = one_refused so_far.told next so_far.refused_is one;

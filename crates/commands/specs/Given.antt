@@ -1,16 +1,36 @@
--- What calls do with the program that a file gives.
-use Rattle.std.specs.Prelude.{◌≡◌, ◌⊎◌, ℕ, List, Option, Result, Ok, Err, ⊤}
+-- What calls do with the program that a file or a line gives.
+use Rattle.std.specs.Prelude.{◌≡◌, ◌⊎◌, ℕ, List, Option, Some, Result, Ok, Err, ⊤}
+use Rattle.machine_spec.specs.declared.helper.Table.{Table}
 use Rattle.program_file.specs.declared.{fault.FileFault.FileFault, choice.GivenProgram.GivenProgram}
+use Rattle.program_file.specs.Choice.{given_program}
+use Rattle.script.specs.declared.command.FileWord.{FileWord}
+use Rattle.script.specs.declared.command.FileWord.TheVariants.{Line, File}
 use Rattle.commands.specs.declared.{given.Ungiven.Ungiven, status.Status.Status}
 use Rattle.commands.specs.declared.given.Ungiven.TheVariants as ungiven
 use Rattle.commands.specs.declared.status.Status.TheVariants as exit
+use Rattle.commands.specs.Images.{first_bytes}
 
--- The program is the one that bytes are, or its fault is the one for which they are refused. Nothing is said where a
--- file can't be read, or memory ran out.
-abbrev pub IsGiven : Result GivenProgram FileFault → Result GivenProgram Ungiven → Type 0
-IsGiven given (Ok program) = given ≡ Ok program
-IsGiven given (Err (ungiven.File fault)) = given ≡ Err fault
-IsGiven given (Err (ungiven.Unread cause)) = ⊤
+-- the bytes of a program: those in a line, or the first ones of a file, where they are known
+abbrev pub AreBytesIn : (List ℕ → Option (List ℕ)) → FileWord → List ℕ → Type 0
+AreBytesIn files (Line known) bytes = bytes ≡ known
+AreBytesIn files (File name) bytes = (known : List ℕ) → files name ≡ Some known → bytes ≡ first_bytes known
+
+-- these bytes give this program, by the helper table that is named, if one is; or this is why they give none
+abbrev pub Gives : (List ℕ → Option (List ℕ)) → FileWord → Option Table → Result GivenProgram FileFault → Type 0
+Gives files source named given = (bytes : List ℕ) × AreBytesIn files source bytes × (given_program named bytes ≡ given)
+
+-- A file gives this program, or it is known why it gives none. Nothing is said where it can't be read, or memory ran
+-- out.
+abbrev pub IsGiven : (List ℕ → Option (List ℕ)) → List ℕ → Option Table → Result GivenProgram Ungiven → Type 0
+IsGiven files name named (Ok given) = Gives files (File name) named (Ok given)
+IsGiven files name named (Err (ungiven.File fault)) = Gives files (File name) named (Err fault)
+IsGiven files name named (Err (ungiven.Unread cause)) = ⊤
+
+-- The same of bytes.
+abbrev pub IsGivenBy : Result GivenProgram FileFault → Result GivenProgram Ungiven → Type 0
+IsGivenBy said (Ok given) = said ≡ Ok given
+IsGivenBy said (Err (ungiven.File fault)) = said ≡ Err fault
+IsGivenBy said (Err (ungiven.Unread cause)) = ⊤
 
 -- the status by which a file that gives no program is reported
 abbrev pub IsTold : Ungiven → Status → Type 0

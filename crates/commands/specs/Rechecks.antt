@@ -13,7 +13,7 @@ use Rattle.commands.specs.declared.{given.Ungiven.Ungiven, run.Ended.Ended, stop
 use Rattle.commands.specs.declared.given.Ungiven.TheVariants as ungiven
 use Rattle.commands.specs.declared.status.Status.TheVariants.{Done, Refused, Failed}
 use Rattle.commands.specs.declared.stop.Stop.TheVariants as stop
-use Rattle.commands.specs.{Appends.Prints, Images.accepted_line, Sessions.IsImageIn, Stops.IsUnwritten, Stops.status_of}
+use Rattle.commands.specs.{Appends.Prints, Given.AreBytesIn, Images.accepted_line, Stops.IsUnwritten, Stops.status_of}
 
 -- ---- the lines of a list
 
@@ -69,7 +69,7 @@ pub record Told : Type 0 where
 -- this was told of a line, by what is known of files
 pub record IsTold (files : List ℕ → Option (List ℕ)) (line : List ℕ) (told : Told) : Type 0 where
   pub names : NamesProgram line told.file told.named
-  pub image : IsImageIn files (File told.file) told.bytes
+  pub bytes_are : AreBytesIn files (File told.file) told.bytes
   pub verdict : IsVerdict (given_program told.named told.bytes) told.verdict
 
 -- What is told of a program of a file, answered by whether it is refused, or by why nothing could be told. Nothing is

@@ -8,7 +8,7 @@ use Rattle.wire_spec.specs.declared.record.Batch.{Batch}
 use Rattle.machine_spec.specs.{Image.Program, Image.program_of, declared.helper.Table.Table}
 use Rattle.log_spec.specs.Logs.{Records, Marked, Closed, is_closed}
 use Rattle.program_file.specs.declared.{fault.FileFault.FileFault, choice.GivenProgram.GivenProgram}
-use Rattle.program_file.specs.Choice.{given_program, program_in}
+use Rattle.program_file.specs.Choice.{program_in}
 use Rattle.part_log.specs.{Parts.Log, Parts.Received, declared.fault.LogFault.LogFault}
 use Rattle.part_log.specs.declared.fault.LogFault.TheVariants.{Full, Clash, Memory, Closed as Shut}
 use Rattle.catalogue.specs.{Finders.Seen, Versions.Version}
@@ -19,13 +19,12 @@ use Rattle.broker.specs.declared.fault.BrokerFault.TheVariants.{Partition as Abs
 use Rattle.script.specs.{declared.command.Command.Command, declared.command.FileWord.FileWord}
 use Rattle.script.specs.{declared.fault.ScriptFault.ScriptFault, Faults.fault_of}
 use Rattle.script.specs.declared.command.Command.TheVariants.{Partitions, Load, Deploy, Put, Append, Close, Fetch, Go}
-use Rattle.script.specs.declared.command.FileWord.TheVariants.{Line, File}
 use Rattle.script.specs.declared.fault.ScriptFault.TheVariants.{Syntax}
 use Rattle.script.specs.Texts.{load_line, deploy_line, close_line, fetch_line}
 use Rattle.report.specs.Snapshots.{Gathered, IsGathered, IsGatherFault}
 use Rattle.report.specs.{Texts.report_text, Writes.Writes}
 use Rattle.commands.specs.{declared.stop.Stop.Stop, Appends.line_of, Appends.unread_of, Appends.AppendDoes}
-use Rattle.commands.specs.{Images.first_bytes, Puts.put_batch, Stops.EndsFor, Stops.end_of_all, Stops.IsUnwritten}
+use Rattle.commands.specs.{Given.Gives, Puts.put_batch, Stops.EndsFor, Stops.end_of_all, Stops.IsUnwritten}
 use Rattle.commands.specs.Stops.{stop_of_file}
 use Rattle.commands.specs.declared.stop.Stop.TheVariants as stop
 
@@ -50,11 +49,6 @@ Begins None parts = ⊥
 -- a receipt of a mark of this version of the name
 abbrev pub IsMark : ℕ → List ℕ → ℕ → Received → Type 0
 IsMark input name version receipt = (program : Program) × IsReceiptOf input (Marked name version program) receipt
-
--- the bytes of the program that a command names: those in its line, or the first ones of a file, where they are known
-abbrev pub IsImageIn : (List ℕ → Option (List ℕ)) → FileWord → List ℕ → Type 0
-IsImageIn files (Line bytes) image = image ≡ bytes
-IsImageIn files (File name) image = (bytes : List ℕ) → files name ≡ Some bytes → image ≡ first_bytes bytes
 
 -- ---- What contracts see of a session, and what lines change
 
@@ -149,16 +143,12 @@ pub record Loads (name image : List ℕ) (table : Table) (old new : Scripted) (l
   pub learned : Learns known old new
   pub line_is : line ≡ load_line name known.number
 
--- the bytes that a command names are taken as a program like this
-abbrev pub TakesAs : (List ℕ → Option (List ℕ)) → FileWord → Option Table → Result GivenProgram FileFault → Type 0
-TakesAs files source named taken = (bytes : List ℕ) × IsImageIn files source bytes × (given_program named bytes ≡ taken)
-
 -- why no program is loaded under a name: it can't be read, or it is a program file that is refused, or the broker
 -- refuses to load it
 abbrev pub LoadFails : (List ℕ → Option (List ℕ)) → List ℕ → FileWord → Option Table → Stop → Type 0
 LoadFails files name source named reason = (reason ≡ unread_of source)
-    ⊎ (((fault : FileFault) × TakesAs files source named (Err fault) × (reason ≡ stop_of_file fault))
-    ⊎ ((given : GivenProgram) × TakesAs files source named (Ok given)
+    ⊎ (((fault : FileFault) × Gives files source named (Err fault) × (reason ≡ stop_of_file fault))
+    ⊎ ((given : GivenProgram) × Gives files source named (Ok given)
     × EndsFor (λ fault. LoadIs name (program_in given) (Err fault)) reason))
 
 -- What `load` does: it loads the program that it names, and prints its line.
@@ -166,7 +156,7 @@ abbrev pub LoadDoes : (List ℕ → Option (List ℕ)) → List ℕ → FileWord
     Option (List ℕ) → Option (List ℕ) → Result ⊤ Stop → Type 0
 LoadDoes files name source named old new before after result =
     ((new ≡ old) × Refused (LoadFails files name source named) before after result)
-    ⊎ ((given : GivenProgram) × (line : List ℕ) × TakesAs files source named (Ok given)
+    ⊎ ((given : GivenProgram) × (line : List ℕ) × Gives files source named (Ok given)
     × Loads name given.image given.table old new line × IsPrinted before after line result)
 
 -- ---- Deploy, put and close

@@ -106,6 +106,7 @@ fn check_given<O: Write, E: Write>(
 }
 
 /// Verifies the program in a file, by the helper table that is named, if one is; answers the status.
+#[tactic(auto, using(crate::proofs::GivenLaws::prints_given, crate::proofs::GivenLaws::prints_none))]
 fn check_file<F: Files, I, O: Write, E: Write>(
     host: &mut Host<F, I, O, E>,
     name: &str,
@@ -134,6 +135,7 @@ fn disassemble_given<O: Write, E: Write>(
 }
 
 /// Prints the text of the image of the program in a file, or says why it is refused; answers the status.
+#[tactic(auto, using(crate::proofs::GivenLaws::prints_given, crate::proofs::GivenLaws::prints_none))]
 fn disassemble_file<F: Files, I, O: Write, E: Write>(
     host: &mut Host<F, I, O, E>,
     name: &str,
@@ -212,6 +214,7 @@ fn explain_given<O: Write, E: Write>(
 }
 
 /// Explains the program in a file, by the helper table that is named, if one is; answers the status.
+#[tactic(auto, using(crate::proofs::GivenLaws::prints_given, crate::proofs::GivenLaws::prints_none))]
 fn explain_file<F: Files, I, O: Write, E: Write>(
     host: &mut Host<F, I, O, E>,
     name: &str,

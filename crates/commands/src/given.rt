@@ -1,10 +1,8 @@
 //! Programs that files give, as images or as program files.
 
-ghost use Rattle.std.specs.Prelude.{◌≡◌, ℕ, List, Some};
-ghost use Rattle.program_file.specs.Choice as definitions;
+ghost use Rattle.program_file.specs.Choice.{given_program};
 ghost use Rattle.commands.specs.Files.{KeepsAll};
-ghost use Rattle.commands.specs.Given.{IsGiven, IsTold};
-ghost use Rattle.commands.specs.Images.{first_bytes};
+ghost use Rattle.commands.specs.Given.{IsGiven, IsGivenBy, IsTold};
 
 use crate::files::Files;
 use crate::image::read_image;
@@ -27,7 +25,7 @@ pub enum Ungiven {
 
 /// The program that bytes are, by the helper table that is named, if one is.
 fn given_of(alloc: Global, bytes: Vec<u8>, named: Option<Table>) -> Result<GivenProgram, Ungiven>
-    ensures { IsGiven (definitions.given_program named bytes.items) result }
+    ensures { IsGivenBy (given_program named bytes.items) result }
 {
     let Ok(bytes) = shared(bytes) else {
         return Err(Ungiven::Unread(Unread::Memory));
@@ -40,13 +38,14 @@ fn given_of(alloc: Global, bytes: Vec<u8>, named: Option<Table>) -> Result<Given
 }
 
 /// The program in a named file, by the helper table that is named, if one is.
+#[tactic(auto, using(crate::proofs::GivenLaws::read_as))]
 pub fn read_program<F: Files>(
     alloc: Global,
     files: &mut F,
     name: &str,
     named: Option<Table>,
 ) -> Result<GivenProgram, Ungiven>
-    ensures given { (bytes : List ℕ) → F.bytes files.old name.now ≡ Some bytes → IsGiven (definitions.given_program named (first_bytes bytes)) result }
+    ensures given { IsGiven (F.bytes files.old) name.now named result }
     ensures kept { KeepsAll (F.bytes files.old) (F.bytes files.new) }
 {
     match read_image(alloc, files, name) {

@@ -8,8 +8,9 @@ ghost use Rattle.broker.specs.{Deployments.LoadIs, Deployments.IsNoReader, Layou
 ghost use Rattle.broker.specs.declared.fault.BrokerFault.TheVariants.{Partition};
 ghost use Rattle.commands.specs.declared.stop.Stop.TheVariants as stop;
 ghost use Rattle.commands.specs.Appends.{unread_of, AppendDoes};
+ghost use Rattle.commands.specs.Given.{AreBytesIn};
 ghost use Rattle.commands.specs.Puts.{put_batch};
-ghost use Rattle.commands.specs.Sessions.{IsImageIn, IsMark, IsMarkFault, Learns, Loads, LoadDoes, DeployDoes, PutDoes, CloseDoes, FetchDoes, GoDoes, Does, LineDoes, ShowsWhy, is_loaded, known_of, setting, state, target_of};
+ghost use Rattle.commands.specs.Sessions.{IsMark, IsMarkFault, Learns, Loads, LoadDoes, DeployDoes, PutDoes, CloseDoes, FetchDoes, GoDoes, Does, LineDoes, ShowsWhy, is_loaded, known_of, setting, state, target_of};
 ghost use Rattle.commands.specs.Stops.{EndsFor};
 
 use crate::appending::{Target, add, append_source, input_of, make_room, print_appended, shown};
@@ -135,7 +136,7 @@ impl<'a, Id: Names + Send + Sync, R: Threads + Wait + Sync> Session<'a, Id, R> {
     /// The bytes of the program that a command names.
     #[tactic(auto, using(crate::proofs::StopLaws::unread_is))]
     fn image<F: Files>(&self, files: &mut F, source: FileWord) -> Result<Bytes, Stop>
-        ensures read { IfOk result (IsImageIn (F.bytes files.old) source) }
+        ensures read { IfOk result (AreBytesIn (F.bytes files.old) source) }
         ensures failed { IfErr result (λ reason. (reason ≡ stop.Memory) ⊎ (reason ≡ unread_of source)) }
     {
         match source {
@@ -175,6 +176,7 @@ impl<'a, Id: Names + Send + Sync, R: Threads + Wait + Sync> Session<'a, Id, R> {
     }
 
     /// Loads the program that a command names, and prints its line once what is known of it is kept.
+    #[tactic(auto, using(crate::proofs::GivenLaws::not_given))]
     fn load_source<F: Files, O: Write>(
         &mut self,
         files: &mut F,

@@ -3,3 +3,4 @@ pub mod Searches
 pub mod LineTexts
 pub mod FileTexts
 pub mod NoImages
+pub mod LastPlaces

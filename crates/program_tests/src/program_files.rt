@@ -10,7 +10,7 @@ use bytes::Bytes;
 use machine_spec::Table;
 use program_file::{
     FileFault, GivenProgram, Places, ProgramFile, fits, given_program, images_are_no_files,
-    is_program_file, one_spelling, read, write,
+    is_program_file, one_spelling, place_at, read, write,
 };
 use std::alloc::{AllocError, Global};
 use std::process::Abort;
@@ -323,6 +323,38 @@ fn is_taken(alloc: Global, row: &str) -> Option<bool> {
 #[test]
 fn given_programs(rt: HostRuntime) {
     all_hold(&rt, GIVEN, |row| is_taken(rt.alloc(), row));
+}
+
+/// Lines, a slot, and the place from which the instruction at the slot comes.
+static PLACES: &str = "\
+# no line is one of a slot up to this one
+ | 0 | -
+1 a; | 0 | -
+3 a; | 2 | -
+# the last one up to it
+0 a; | 0 | a
+0 a; | 3 | a
+0 a;1 b; | 0 | a
+0 a;1 b; | 1 | b
+0 a;1 b; | 2 | b
+0 a;2 b; | 1 | a
+0 a;2 b;3 c; | 2 | b
+0 a;2 b;3 c; | 3 | c
+0 a;2 b;3 c; | 16384 | c
+1 route.c:7; | 1 | route.c:7
+";
+
+fn is_place_at(alloc: Global, row: &str) -> Option<bool> {
+    let (lines, slot, want) = three(row)?;
+    let bytes = Bytes::from_vec(file_of(alloc, HEADER, lines)?).ok()?;
+    let given = given_program(alloc, None, bytes).ok()?;
+    let place = place_at(&given.places, slot.parse().ok()?);
+    Some(place.unwrap_or("-") == want)
+}
+
+#[test]
+fn places(rt: HostRuntime) {
+    all_hold(&rt, PLACES, |row| is_place_at(rt.alloc(), row));
 }
 
 #[test]

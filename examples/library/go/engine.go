@@ -74,7 +74,7 @@ type Program struct {
 	program, headers, outcome, batches C.klog_handle
 }
 
-// Load loads an image by helper table 1 or 2.
+// Load loads an image by helper table 1 or 2, or a program file; by 0 an image by table 1, and a file by its own.
 func (p *Program) Load(image []byte, table int) error {
 	var place C.size_t
 	number := C.klog_load(bytesAt(image), C.size_t(len(image)), C.uint32_t(table), &p.program, &place)

@@ -1,10 +1,10 @@
 use Rattle.std.proofs.Common.{◌≡◌, ap, sym, ◌∙◌}
 use Rattle.script.specs.Words.{texts, words_of}
-use Rattle.commands.proofs.RecheckLaws.{line_told}
+use Rattle.commands.proofs.RecheckLaws.{line_told, file_refused}
 use Rattle.commands.proofs.rechecking.recheck_line.Goals as goal
 
-pub returns-clause-told : goal.returns-clause-told
-returns-clause-told g c =
+pub returns-in-Ok-clause-told : goal.returns-in-Ok-clause-told
+returns-in-Ok-clause-told g c =
     let second : texts c.deref-2.result.now ≡ words_of c.args.line.now = ap texts c.deref-2.ensures.value
     ∙ c.in_ok-words.ensures in
     let first : texts c.deref.result.now ≡ words_of c.args.line.now = ap texts c.deref.ensures.value
@@ -12,4 +12,15 @@ returns-clause-told g c =
     line_told _ _ _ _ _ _ _ _ (record {
       file_is = rw (← second) (sym c.piece-name.ensures);
       table_is = rw (← first) (sym c.in-Some.ensures.table);
-    }) (λ bytes known. c.as_slice-image.ensures.value ∙ c.in-Ok.ensures.read bytes known) c.recheck_image.ensures
+    }) c.in-Ok.ensures.given c.recheck_given.ensures
+
+pub returns-in-Err-clause-told : goal.returns-in-Err-clause-told
+returns-in-Err-clause-told g c =
+    let second : texts c.deref-2.result.now ≡ words_of c.args.line.now = ap texts c.deref-2.ensures.value
+    ∙ c.in_ok-words.ensures in
+    let first : texts c.deref.result.now ≡ words_of c.args.line.now = ap texts c.deref.ensures.value
+    ∙ c.in_ok-words.ensures in
+    file_refused _ _ _ _ _ _ _ (record {
+      file_is = rw (← second) (sym c.piece-name.ensures);
+      table_is = rw (← first) (sym c.in-Some.ensures.table);
+    }) c.in-Err.ensures.given c.refuse_file.ensures

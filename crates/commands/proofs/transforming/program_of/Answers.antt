@@ -1,9 +1,9 @@
 use Rattle.std.proofs.Common.{rules}
-use Rattle.machine_spec.specs.Image.{program_of}
 use Rattle.annotate.specs.Loads.{FaultIs}
+use Rattle.program_file.specs.Choice.{program_in}
 use Rattle.commands.proofs.transforming.program_of.Goals as goal
 
 pub returns : goal.returns
 returns c =
-    let refused : FaultIs (program_of c.args.image.items c.args.table) c.in-Err.fault = search rules in
-    c.unloaded.ensures (program_of c.args.image.items c.args.table) refused
+    let refused : FaultIs (program_in c.args.given.now) c.in-Err.fault = search rules in
+    c.unloaded.ensures (program_in c.args.given.now) refused

@@ -1,4 +1,4 @@
-use Rattle.commands.proofs.FileLaws.{told_as}
+use Rattle.commands.proofs.CallLaws.{told_as}
 use Rattle.commands.proofs.transforming.transform.Goals as goal
 
 pub returns-in-Ok-clause-written : goal.returns-in-Ok-clause-written

@@ -1,6 +1,6 @@
 use Rattle.std.proofs.Common.{◌∙◌}
 use Rattle.commands.proofs.RecheckLaws.{accepted_told, refused_told}
-use Rattle.commands.proofs.rechecking.recheck_image.Goals as goal
+use Rattle.commands.proofs.rechecking.recheck_given.Goals as goal
 
 pub returns-in_ok-print_accepted-in-Ok : goal.returns-in_ok-print_accepted-in-Ok
 returns-in_ok-print_accepted-in-Ok g c =

@@ -1,7 +1,7 @@
 use Rattle.std.proofs.Common.{◌≢◌, Option, Some, None, sym, ◌∙◌, inl, inr}
 use Rattle.explain.specs.declared.explanation.Diagnosis.{Diagnosis}
 use Rattle.commands.specs.{declared.status.Status.TheVariants.Failed, Explanations.status_of_refusal}
-use Rattle.commands.proofs.call.explain_bytes.Goals as goal
+use Rattle.commands.proofs.call.explain_given.Goals as goal
 
 not_failed : (refusal : Option Diagnosis) → status_of_refusal refusal ≢ Failed
 not_failed None e = cc
