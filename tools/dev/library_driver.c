@@ -2,8 +2,9 @@
  * of each kind, with random, damaged and huge images, records, headers and record batches, short buffers, null pointers
  * and handles of every kind.
  *	library_driver SECONDS THREADS SEED IMAGE ..
- * It fails where a fault is none of the function's, where a fault changes a handle or a buffer, or where the first
- * image, which forwards each record to output 0, gives another record or batch than it was given. A sanitizer finds the rest:
+ * It fails where a fault is none of the function's, where a fault changes a handle or a buffer, where the first image,
+ * which forwards each record to output 0, gives another record or batch than it was given, or where a beginning of that
+ * image's program file is loaded, or refused with another fault than its length has. A sanitizer finds the rest:
  *	cc -std=c99 -D_POSIX_C_SOURCE=200809L -g -fsanitize=address,undefined -fno-sanitize-recover -pthread -IFOLDER \
  *		tools/dev/library_driver.c FOLDER/libklog.a -o library_driver
  * With -fsanitize=thread in its place the sanitizer sees the driver and include/klog_engine.c, if that is compiled with
@@ -778,6 +779,40 @@ static void transform_within(struct worker *w)
 	free(room);
 }
 
+/* Loads the first bytes of a file, by a table, and compares the fault. */
+static void load_file(const uint8_t *file, size_t length, uint32_t by, uint32_t want)
+{
+	uint8_t *bytes = malloc(length ? length : 1);
+	klog_handle program = KLOG_NOTHING;
+	size_t place = MARK;
+	if (!bytes)
+		fail("malloc", 0);
+	memcpy(bytes, file, length);
+	uint32_t fault = klog_load(bytes, length, by, &program, &place);
+	if (fault != want || place != (want == 101 ? 0 : MARK))
+		fail("load of a program file", fault);
+	klog_free(&program);
+	free(bytes);
+}
+
+/* Loads the file of the first image by each table, and each beginning of it. */
+static void load_files(struct worker *w)
+{
+	const struct image *from = &images[0];
+	uint8_t *file = block(w, from->length + FILE_ROOM);
+	memcpy(file, from->bytes, from->length);
+	size_t length = as_file(file, from->length, KLOG_TABLE_ONE);
+	load_file(file, length, KLOG_TABLE_OWN, KLOG_OK);
+	load_file(file, length, KLOG_TABLE_ONE, KLOG_OK);
+	load_file(file, length, KLOG_TABLE_TWO, KLOG_FILE + 3);
+	load_file(file, length, 3, KLOG_RANGE);
+	for (size_t k = 0; k < length; k++)
+		load_file(file, k, KLOG_TABLE_OWN,
+			  k < 4 ? 101 : k < 16 + from->length ? KLOG_FILE + 1 : k == 16 + from->length ? KLOG_OK : KLOG_FILE + 4);
+	load_file(from->bytes, from->length, KLOG_TABLE_OWN, KLOG_OK);
+	free(file);
+}
+
 /* Fills what all threads read. */
 static void make_shared(struct worker *w)
 {
@@ -860,6 +895,7 @@ int main(int argc, char **argv)
 	for (size_t k = 0; k < threads; k++)
 		workers[k].state = strtoul(argv[3], NULL, 10) * 64 + k + 88172645463325252ull;
 	make_shared(&workers[0]);
+	load_files(&workers[0]);
 	end = time(NULL) + (time_t)strtoul(argv[1], NULL, 10);
 	for (size_t k = 0; k < threads; k++) {
 		if (klog_share(&shared, &workers[k].forward))

@@ -12,6 +12,7 @@ use crate::graph::Graph;
 use crate::hint::Hint;
 use crate::hints::hint_at;
 use crate::listing::push_first;
+use crate::meeting::slot_of;
 use crate::reason::Reason;
 use crate::way::{Coverage, selection_of};
 use abstract_regs::State;
@@ -109,14 +110,13 @@ fn refusal_at(
     table: Table,
     fault: VerifyFault,
 ) -> Result<Diagnosis, AllocError>
-    requires { fault.pc < length graph.now }
     ensures { IfOk result (λ refusal. refusal ≡ definitions.refusal_at table graph.now states.now fault) }
 {
     let reason = reason_at(graph.code(), states, fault);
     let hint = hint_at(alloc, graph, states, table, fault, reason)?;
     Ok(Diagnosis {
         fault,
-        slot: graph.code().slot(fault.pc),
+        slot: slot_of(graph.code(), fault.pc),
         reason,
         hint,
     })
@@ -129,7 +129,6 @@ fn refusal_with(
     table: Table,
     fault: Option<VerifyFault>,
 ) -> Result<Option<Diagnosis>, AllocError>
-    requires { IfSome fault (λ f. f.pc < length graph.now) }
     ensures { IfOk result (λ refusal. refusal ≡ option_map (definitions.refusal_at table graph.now states.now) fault) }
 {
     match fault {

@@ -167,7 +167,7 @@ pub enum Loss {
     Before(usize),
 }
 
-fn slot_of(code: &Code, k: usize) -> usize
+pub(crate) fn slot_of(code: &Code, k: usize) -> usize
     ensures { result ≡ definitions.slot_of code.now k }
 {
     if k < code.len() { code.get(k).slot } else { 0 }
