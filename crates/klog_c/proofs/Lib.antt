@@ -1,3 +1,4 @@
+mod GivenLaws
 mod AsBox
 mod Ranges
 mod Sources

@@ -86,6 +86,7 @@ fn put_explanation(alloc: Global, given: &GivenProgram, extent: Coverage, text: 
 
 /// Puts what is explained of the program that bytes are into a handle, by the helper table that a number names,
 /// if it names one.
+#[tactic(auto, using(crate::proofs::GivenLaws::explained, crate::proofs::GivenLaws::not_explained))]
 pub(crate) fn explain_into(
     alloc: Global,
     bytes: &[u8],

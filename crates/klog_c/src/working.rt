@@ -79,6 +79,7 @@ fn put_given(alloc: Global, given: &GivenProgram, program: &mut Handle, place: &
 }
 
 /// Puts the program that bytes are into a handle, by the helper table that a number names, if it names one.
+#[tactic(auto, using(crate::proofs::GivenLaws::loaded, crate::proofs::GivenLaws::not_loaded))]
 pub(crate) fn load_into(
     alloc: Global,
     bytes: &[u8],
