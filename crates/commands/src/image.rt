@@ -36,7 +36,7 @@ fn read_first<R: Read + Drop>(alloc: Global, reader: R) -> Result<Vec<u8>, Unrea
     read_whole(alloc, &mut first)
 }
 
-/// The first bytes of a named file, which are all of a program.
+/// The first bytes of a named file, as many as are read of a program.
 pub fn read_image<F: Files>(alloc: Global, files: &mut F, name: &str) -> Result<Vec<u8>, Unread>
     ensures read { (bytes : List ℕ) → F.bytes files.old name.now ≡ Some bytes → IfOk result (λ image. image.items ≡ first_bytes bytes) }
     ensures kept { KeepsAll (F.bytes files.old) (F.bytes files.new) }
