@@ -1,4 +1,4 @@
-/* Record batches read plainly, as docs/wire.md says, with no code of klog's: what the fuzz targets compare with. */
+/* Record batches read plainly, as docs/reference/wire.md says, with no code of klog's: for the fuzz targets. */
 #ifndef PLAIN_H
 #define PLAIN_H
 

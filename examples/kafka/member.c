@@ -1,5 +1,5 @@
-/* Runs a klog program on the records of a Kafka topic, each exactly once, as a member of a consumer group. docs/scaling.md
- * says how to set it up; `member --help` lists the options.
+/* Runs a klog program on the records of a Kafka topic, each exactly once, as a member of a consumer group.
+ * docs/guide/scaling.md says how to set it up; `member --help` lists the options.
  *
  * - Each thread has a consumer, a producer and a handle of the program of its own, and is a member of the group by itself:
  *   the group shares the partitions out among all threads of all processes.

@@ -5,7 +5,7 @@
 
 LIBRARY is libklog.so. A line is KEY<TAB>VALUE, or VALUE alone, with a null key. With --json it is an object with "key",
 "value", "headers" (a list of pairs) and "timestamp", of which each may be left out; what `kcat -J` prints is one too.
-docs/formats.md says more.
+docs/guide/formats.md says more.
 """
 import argparse
 import json

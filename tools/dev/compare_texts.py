@@ -337,8 +337,8 @@ USAGE = "usage: klog COMMAND FILE ..."
 
 
 def calls():
-    """What `klog commands` prints: the calls of the first table of docs/commands.md."""
-    with open(os.path.join(os.path.dirname(os.path.abspath(__file__)), "..", "..", "docs", "commands.md")) as text:
+    """What `klog commands` prints: the calls of the first table of docs/guide/commands.md."""
+    with open(os.path.join(os.path.dirname(os.path.abspath(__file__)), "..", "..", "docs", "guide", "commands.md")) as text:
         return "".join(call + "\n" for call in re.findall(r"^\| `(klog [^`]*)` \|", text.read(), re.M))
 
 

@@ -3,8 +3,8 @@
 
     tools/dev/graph_test.py [--klog KLOG]
 
-Without KLOG a stand-in prints what klog would, as docs/commands.md says, from the second implementation in tools/dev/second_machine.py. Where
-Graphviz is installed it reads each graph.
+Without KLOG a stand-in prints what klog would, as docs/guide/commands.md says, from the second implementation in
+tools/dev/second_machine.py. Where Graphviz is installed it reads each graph.
 """
 import argparse
 import os

@@ -1,5 +1,5 @@
 #!/usr/bin/env python3
-"""Times the dearest call of each helper, and the dearest records: the rows of docs/hostile.md.
+"""Times the dearest call of each helper, and the dearest records: the rows of docs/inside/hostile.md.
 
     tools/dev/helper_cost.py LIBRARY         the libklog.so of tools/build_library.sh
 

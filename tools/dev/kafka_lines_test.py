@@ -82,8 +82,8 @@ def with_kcat(library):
 
 
 def as_the_page_says(library):
-    """The pipe of docs/formats.md, over a topic that has records and gets more while the pipe runs."""
-    with open(f"{TOP}/docs/formats.md") as page:
+    """The pipe of docs/guide/formats.md, over a topic that has records and gets more while the pipe runs."""
+    with open(f"{TOP}/docs/guide/formats.md") as page:
         pipe = re.search(r"```\n(kcat -b HOST.*?)```", page.read(), re.S).group(1)
     cluster = MockCluster({"orders": 1, "routed": 1})
     for word, given in (("HOST:9092", cluster.servers), ("/tmp/klog/libklog.so", library), ("route.bin", KEEP)):

@@ -1,5 +1,5 @@
 #!/usr/bin/env python3
-"""Times examples/kafka/plain beside gunzip, zstd -d and lz4 -d on the same compressed bytes (docs/formats.md).
+"""Times examples/kafka/plain beside gunzip, zstd -d and lz4 -d on the same compressed bytes (docs/guide/formats.md).
 
 Not part of the build. On Debian:
 

@@ -1,5 +1,5 @@
 #!/usr/bin/env python3
-"""Measures members of examples/kafka against librdkafka's mock cluster (docs/scaling.md).
+"""Measures members of examples/kafka against librdkafka's mock cluster (docs/guide/scaling.md).
 
 Not part of the build. On Debian, and Linux, with a libklog.so that tools/build_library.sh made, and for `rates` and the
 others with --member the member in C, which its Makefile made:

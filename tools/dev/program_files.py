@@ -1,5 +1,5 @@
 #!/usr/bin/env python3
-"""Reads and writes program files apart from klog, as docs/machine.md says. Not part of the build.
+"""Reads and writes program files apart from klog, as docs/reference/machine.md says. Not part of the build.
 
     tools/dev/program_files.py write TABLE IMAGE LINES FILE    # writes the program file of an image and a file of lines
     tools/dev/program_files.py read FILE                       # prints what a file says, or why it is refused

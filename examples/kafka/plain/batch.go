@@ -8,7 +8,7 @@ import (
 	"io"
 )
 
-// The fields of a batch's header, by their first byte; docs/wire.md has the table.
+// The fields of a batch's header, by their first byte; docs/reference/wire.md has the table.
 const (
 	lengthAt, magicAt, crcAt, attributesAt, lastDeltaAt    = 8, 16, 17, 21, 23
 	baseTimeAt, maxTimeAt, producerAt, epochAt, sequenceAt = 27, 35, 43, 51, 53

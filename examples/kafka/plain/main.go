@@ -4,7 +4,7 @@
 //
 // Compressed records are decompressed; control batches, and with -aborted the records of aborted transactions, are left
 // out; a broker's append time becomes the records' time; offsets that are missing are closed up; a batch with too many
-// records, or too long, becomes several. docs/formats.md says more.
+// records, or too long, becomes several. docs/guide/formats.md says more.
 package main
 
 import (

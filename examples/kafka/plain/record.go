@@ -8,7 +8,7 @@ import (
 	"unicode/utf8"
 )
 
-// klog's limits of a record, as docs/wire.md has them.
+// klog's limits of a record, as docs/reference/wire.md has them.
 const (
 	mostKey, mostValue             = 4096, 1048576
 	mostHeaders                    = 16

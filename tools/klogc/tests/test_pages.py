@@ -33,7 +33,7 @@ MENDED_HEADS = {"u64 lookup(u64 n);\n": "static u64 lookup(u64 n)\n{\n\treturn n
 
 
 def page(name):
-    with open(os.path.join(TOP, "docs", name), encoding="utf-8") as it:
+    with open(os.path.join(TOP, "docs", *name.split("/")), encoding="utf-8") as it:
         return it.read()
 
 
@@ -53,7 +53,7 @@ class Pages(unittest.TestCase):
 
     def test_refusals(self):
         """Each row's C is refused at its line with what the row says, and accepted as it is mended."""
-        rows = re.findall(r"^\| (`.*?) \| (.*?) \| .*? \|$", page("klogc.md").split("| C | said at its line | mended |")[1].split("\n\n")[0], re.M)
+        rows = re.findall(r"^\| (`.*?) \| (.*?) \| .*? \|$", page("guide/klogc.md").split("| C | said at its line | mended |")[1].split("\n\n")[0], re.M)
         self.assertEqual([row[0] for row in ROWS], [c for c, _ in rows])
         for (_, said), (c, head, refused, mended) in zip(rows, ROWS):
             with self.subTest(c):
@@ -65,7 +65,7 @@ class Pages(unittest.TestCase):
 
     def test_counts(self):
         """An image of examples/c has as many instructions as the page of benchmarks says."""
-        counts = re.findall(r"^\| `(\w+)`, (\d+)", page("benchmarks.md"), re.M)
+        counts = re.findall(r"^\| `(\w+)`, (\d+)", page("inside/benchmarks.md"), re.M)
         images = [(name, int(n)) for name, n in counts if os.path.exists(self.image(name))]
         self.assertTrue(images)
         for name, n in images:
