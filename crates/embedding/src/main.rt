@@ -1,6 +1,6 @@
 //! klog as a library, in one file to begin with: `embedding IMAGE BATCHES` makes a broker, loads and
 //! deploys a transform, appends the record batches of a file, runs the workers, and fetches what came
-//! out. `docs/embedding.md` explains it line by line.
+//! out. `docs/guide/embedding.md` explains it line by line.
 #![tactic(auto)]
 
 ghost use Rattle.broker.specs.Layouts.{IsNamed};
