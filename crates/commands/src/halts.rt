@@ -28,7 +28,7 @@ pub(crate) const FIRST_OUTPUT: usize = 2;
 
 /// Where it stands what makes batches of others that klog refuses.
 const CURE: &str =
-    "docs/formats.md: examples/kafka/plain makes such batches klog's, or says why it can't\n";
+    "docs/guide/formats.md: examples/kafka/plain makes such batches klog's, or says why it can't\n";
 
 /// Why a transform ends early.
 #[derive(Drop)]
