@@ -59,9 +59,9 @@ enum { KLOG_NULL_KEY = 1, KLOG_NULL_VALUE = 2 };
  * be table 3 with the helpers 1 to 21; of an image it is table 1. Another one must be the file's own. */
 enum { KLOG_TABLE_OWN = 0, KLOG_TABLE_ONE = 1, KLOG_TABLE_TWO = 2 };
 
-/* The version of this header: 1,000 times the major number and the minor one, so 0.2. Later versions with the same
+/* The version of this header: 1,000 times the major number and the minor one, so 1.1. Later versions with the same
  * major number keep what is here. */
-enum { KLOG_VERSION = 2 };
+enum { KLOG_VERSION = 1001 };
 
 /* The most emissions of one record, and the most headers. */
 enum { KLOG_EMISSIONS = 16, KLOG_HEADERS = 16 };

@@ -347,7 +347,7 @@ def fixed_calls(folder):
     place = lambda name: os.path.join(folder, name)
     good, image = written(place("good"), b"mov64 r0, 0\nexit\n"), written(place("zero.bin"), slot(0xB7) + slot(0x95))
     long, none, inside = written(place("long"), b"#" * (100 << 20)), place("none"), place("none/image")
-    for words in ((), ("frob", good), ("asm", good), ("asm", good, none, none), ("dis",), ("dis", image, image), ("check",), ("check", image, image), ("check", image, "3"), ("check", image, "01"), ("check", image, "2", "2"), ("explain", image, "refused", "2"), ("check", "--help"), ("--help",), ("--version",), ("dis", "-x"), ("asm", "--", none), ("help",), ("commands", good), ("transform", image, good, none, none)):
+    for words in ((), ("frob", good), ("asm", good), ("asm", good, none, none), ("dis",), ("dis", image, image), ("check",), ("check", image, image), ("check", image, "3"), ("check", image, "01"), ("check", image, "2", "2"), ("explain", image, "refused", "2"), ("check", "--help"), ("--help",), ("--version",), ("dis", "-x"), ("asm", "--", none), ("help",), ("commands", good), ("version", good), ("transform", image, good, none, none)):
         yield words, {}, 2, USAGE
     for name in (none, folder, "-"):
         yield ("check", name), {}, 3, "file " + name

@@ -28,3 +28,4 @@ IsAccepted (call.Image asked) = ⊤
 IsAccepted (call.List listing file) = ⊤
 IsAccepted (call.Recheck list) = ⊤
 IsAccepted (call.Run script) = ⊤
+IsAccepted call.Version = ⊤

@@ -11,7 +11,7 @@ struct Form {
 }
 
 /// All commands but `transform`.
-static FORMS: [Form; 9] = [
+static FORMS: [Form; 10] = [
     Form {
         name: "asm",
         least: 2,
@@ -56,6 +56,11 @@ static FORMS: [Form; 9] = [
         name: "run",
         least: 1,
         most: 1,
+    },
+    Form {
+        name: "version",
+        least: 0,
+        most: 0,
     },
 ];
 

@@ -70,6 +70,7 @@ fn call_alone<'a>(name: &str) -> Option<Call<'a>>
 {
     match name {
         "commands" => Some(Call::Commands),
+        "version" => Some(Call::Version),
         _ => None,
     }
 }

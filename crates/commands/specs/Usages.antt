@@ -25,7 +25,12 @@ calls =
     ∷ codes "klog records FILE"
     ∷ codes "klog run SCRIPT"
     ∷ codes "klog transform [table2] IMAGE IN OUT .."
+    ∷ codes "klog version"
     ∷ []
+
+-- the version
+abbrev pub version_line : List ℕ
+version_line = line_of (codes "klog 1.1.0")
 
 -- Words are no call: the status says so, and standard error, where what it has is known, got the line that says how
 -- calls are written and nothing else, if all of it was written.
@@ -38,3 +43,7 @@ pub record TellsUsage (told : Told) (before after : Option (List ℕ)) : Type 0 
 abbrev pub ListsCalls : Status → Option (List ℕ) → Option (List ℕ) → Type 0
 ListsCalls status before after =
     (status ≡ Failed) ⊎ ((status ≡ Done) × Appends before after (flat_map line_of calls))
+
+-- the same of a call that prints the version
+abbrev pub PrintsVersion : Status → Option (List ℕ) → Option (List ℕ) → Type 0
+PrintsVersion status before after = (status ≡ Failed) ⊎ ((status ≡ Done) × Appends before after version_line)

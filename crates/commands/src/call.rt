@@ -28,7 +28,7 @@ use crate::run::run_script;
 use crate::status::Status;
 use crate::telling::{print_text, tell, tell_memory, tell_refused, tell_text, tell_unread};
 use crate::transforming::transform;
-use crate::usage::{list_calls, tell_usage};
+use crate::usage::{list_calls, print_version, tell_usage};
 use bpf_asm::{AsmFault, assemble};
 use command_line::{Call, ImageCall, Misuse, call_of};
 use explain::{Coverage, Explanation, explain_image};
@@ -342,7 +342,8 @@ pub fn command<R: Threads + Wait + Sync, F: Files, I: Read, O: Write, E: Write>(
         Ok(Call::List(listing, file)) => list(host, listing, file),
         Ok(Call::Recheck(list)) => recheck(host, list),
         Ok(Call::Run(script)) => run(rt, host, script),
-        Ok(Call::Transform(named, words)) => transform(host, named, words),
+        Ok(Call::Transform(table, words)) => transform(host, table, words),
+        Ok(Call::Version) => print_version(host.alloc, &mut host.stdout, &mut host.stderr),
         Err(Misuse::Usage) => tell_usage(&mut host.stderr).status,
         Err(Misuse::Memory) => tell_memory(&mut host.stderr),
     }

@@ -1,10 +1,10 @@
-//! Which calls there are, and what is said of words that are none.
+//! Which calls there are, which version this is, and what is said of words that are no call.
 
 ghost use Rattle.std.specs.Prelude.{◌≡◌, ◌≢◌};
 ghost use Rattle.std.specs.IoError.{error_kind};
 ghost use Rattle.std.specs.declared.io.ErrorKind.TheVariants.{OutOfMemory};
 ghost use Rattle.commands.specs.declared.status.Status.TheVariants.{Failed};
-ghost use Rattle.commands.specs.Usages.{ListsCalls, TellsUsage};
+ghost use Rattle.commands.specs.Usages.{ListsCalls, PrintsVersion, TellsUsage};
 
 use crate::status::Status;
 use crate::telling::{MEMORY, print_text, say};
@@ -18,7 +18,10 @@ const USAGE: &str = "usage: klog COMMAND FILE ...\n";
 /// All calls.
 const CALLS: &str = "klog asm TEXT IMAGE\nklog batches FILE\nklog check IMAGE [1 or 2]\n\
     klog commands\nklog explain IMAGE [1 or 2] [refused]\nklog dis IMAGE\nklog recheck LIST\n\
-    klog records FILE\nklog run SCRIPT\nklog transform [table2] IMAGE IN OUT ..\n";
+    klog records FILE\nklog run SCRIPT\nklog transform [table2] IMAGE IN OUT ..\nklog version\n";
+
+/// The version, as the head of CHANGELOG.md has it.
+const VERSION: &str = "klog 1.1.0\n";
 
 /// What was told to standard error.
 #[derive(Clone, Copy)]
@@ -64,4 +67,15 @@ pub(crate) fn list_calls<O: Write, E: Write>(
     ensures { ListsCalls result (O.contents stdout.old) (O.contents stdout.new) }
 {
     print_text(alloc, stdout, stderr, CALLS)
+}
+
+/// Prints the version, and answers the status.
+pub(crate) fn print_version<O: Write, E: Write>(
+    alloc: Global,
+    stdout: &mut O,
+    stderr: &mut E,
+) -> Status
+    ensures { PrintsVersion result (O.contents stdout.old) (O.contents stdout.new) }
+{
+    print_text(alloc, stdout, stderr, VERSION)
 }

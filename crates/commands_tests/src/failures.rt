@@ -20,7 +20,7 @@ const LISTED: &str = "position: 0 baseOffset: 0 count: 1 size: 70 baseTimestamp:
     baseSequence: 12\n";
 
 /// What calls with files that don't fail write to standard output; standard input has the batches.
-static TEXTS: [(&[&str], &str); 7] = [
+static TEXTS: [(&[&str], &str); 8] = [
     (
         &["run", "script"],
         "load f version 1\ndeploy 0 index 0 f version 1\nappend 0 index 1 base 0\n\
@@ -35,8 +35,9 @@ static TEXTS: [(&[&str], &str); 7] = [
         &["commands"],
         "klog asm TEXT IMAGE\nklog batches FILE\nklog check IMAGE [1 or 2]\nklog commands\n\
         klog explain IMAGE [1 or 2] [refused]\nklog dis IMAGE\nklog recheck LIST\n\
-        klog records FILE\nklog run SCRIPT\nklog transform [table2] IMAGE IN OUT ..\n",
+        klog records FILE\nklog run SCRIPT\nklog transform [table2] IMAGE IN OUT ..\nklog version\n",
     ),
+    (&["version"], "klog 1.1.0\n"),
     (&["dis", "image"], "mov64 r1, 0\ncall 3\nexit\n"),
     (
         &["recheck", "list"],

@@ -14,7 +14,7 @@ const USAGE: &str = "usage: klog COMMAND FILE ...\n";
 
 /// Words that are no call: too few or too many, no command, a help, a word that begins with `-`, a transform of which
 /// two files have one name.
-static MISUSES: [&[&str]; 14] = [
+static MISUSES: [&[&str]; 15] = [
     &[],
     &["foo"],
     &["--help"],
@@ -23,6 +23,7 @@ static MISUSES: [&[&str]; 14] = [
     &["help", "commands"],
     &["commands", "x"],
     &["commands", "--help"],
+    &["version", "x"],
     &["asm", "t"],
     &["dis", "-x"],
     &["explain", "image", "3"],
