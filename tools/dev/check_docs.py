@@ -1,14 +1,18 @@
 #!/usr/bin/env python3
-"""Runs the commands of the docs, and fails where one of them prints something else.
+"""Runs the commands of the pages, and fails where one prints something else or a link leads nowhere.
 
-    tools/dev/check_docs.py KLOG          # KLOG: the built program, crates/klog/out/klog after `rt run`
+    tools/dev/check_docs.py KLOG [PAGE ..]    # KLOG: the built program, crates/klog/out/klog after `rt run`
+    tools/dev/check_docs.py links             # the links alone
 
-In README.md and docs/*.md a block of code whose first line begins with `$ ` is a transcript: each such line is a command,
-and what follows it is what the command prints, errors too. A block under `<!-- file: NAME -->` is a file. A block under
-`<!-- not run -->` is left out. What is between `<!-- printed by COMMAND -->` and `<!-- end -->` is what that command prints.
-The files and commands of a page are made and run in their order, in a folder of its own that has the repository's `examples`
-and `tools`, with klog and klogc on the path, and in EXAMPLES the folder of the examples. A file that a page makes is the one of the same name
-in docs/pictures, if that has one. Needs bash, clang 14 and xxd.
+The pages are those at the top and in docs. In a page a block of code whose first line begins with `$ ` is a transcript:
+each such line is a command, and what follows it is what the command prints, errors too. A block under
+`<!-- file: NAME -->` is a file. A block under `<!-- not run -->` is left out. What is between `<!-- printed by COMMAND -->`
+and `<!-- end -->` is what that command prints. The files and commands of a page are made and run in their order, in a
+folder of its own that has the repository's `examples` and `tools`, with klog and klogc on the path, and in EXAMPLES the
+folder of the examples. A file that a page makes is the one of the same name in docs/pictures, if that has one.
+
+A link leads to a file and, behind `#`, to a heading of a page. A path in backquotes that begins with a folder of the top
+is one of the repository, but in `out`, which builds make. Needs bash, clang 14 and xxd; links need nothing.
 """
 import os
 import re
@@ -21,6 +25,9 @@ TOP = Path(__file__).resolve().parents[2]
 PICTURES = TOP / "docs" / "pictures"
 PRINTED = r"<!-- printed by (?P<command>.*?) -->\n(?P<printed>.*?)<!-- end -->"
 BLOCK = r"(?:<!-- (?P<mark>.*?) -->\n+)?```\w*\n(?P<block>.*?)```"
+LINK = r"\]\((?!\w+:)([^)#\s]*)(?:#([^)\s]*))?\)"
+FOLDERS = "crates|docs|examples|fuzz|include|tools"
+PATH = rf"`((?:{FOLDERS})/[\w./-]+)`"
 
 
 def steps(block):
@@ -50,6 +57,43 @@ def other_pictures(room):
             yield f"docs/pictures/{picture.name}", picture.read_text(encoding="utf-8"), made.read_text(encoding="utf-8")
 
 
+def pages(names):
+    """The pages of these names, or all of them."""
+    return [TOP / name for name in names] or [*sorted(TOP.glob("*.md")), *sorted((TOP / "docs").rglob("*.md"))]
+
+
+def anchors(page):
+    """By which names links reach the headings of a page."""
+    for heading in re.findall(r"^#+ (.*)$", re.sub(r"```.*?```", "", page, flags=re.S), re.M):
+        yield re.sub(r"[^\w -]", "", heading.lower()).replace(" ", "-")
+
+
+def leads(path, target, anchor):
+    """Whether a link of a page leads to a file, and to a heading where it names one."""
+    to = (path.parent / target).resolve() if target else path
+    return to.exists() and (not anchor or anchor in anchors(to.read_text(encoding="utf-8")))
+
+
+def lost_links(path):
+    """How many links a page has, and those that lead nowhere."""
+    page = re.sub(r"```.*?```", "", path.read_text(encoding="utf-8"), flags=re.S)
+    links, names = re.findall(LINK, page), [name for name in re.findall(PATH, page) if "out" not in name.split("/")]
+    lost = [f"{target}#{anchor}" if anchor else target for target, anchor in links if not leads(path, target, anchor)]
+    return len(links) + len(names), lost + [name for name in names if not (TOP / name).exists()]
+
+
+def check_links():
+    """Whether all links lead somewhere; prints those that don't."""
+    count = failed = 0
+    for path in pages([]):
+        found, lost = lost_links(path)
+        count, failed = count + found, failed + len(lost)
+        for link in lost:
+            print(f"{path.relative_to(TOP)}: {link} leads nowhere")
+    print(f"{count} links, {failed} lead nowhere")
+    return not failed
+
+
 def run_page(path, room, environment):
     """How many commands the page has, and those that print something else."""
     count, wrong, status = 0, [], 0
@@ -66,10 +110,13 @@ def run_page(path, room, environment):
 
 
 def main():
-    if len(sys.argv) != 2:
+    if len(sys.argv) < 2:
         sys.exit(__doc__)
+    linked = check_links()
+    if sys.argv[1] == "links":
+        sys.exit(not linked)
     total = failed = 0
-    for path in [TOP / "README.md", *sorted((TOP / "docs").glob("*.md"))]:
+    for path in pages(sys.argv[2:]):
         with tempfile.TemporaryDirectory() as folder:
             room, programs = Path(folder) / "work", Path(folder) / "bin"
             room.mkdir()
@@ -81,9 +128,9 @@ def main():
             count, wrong = run_page(path, room, environment)
         total, failed = total + count, failed + len(wrong)
         for what, expected, printed in wrong:
-            print(f"{path.name}: {what}\n--- expected\n{expected}--- printed\n{printed}")
+            print(f"{path.relative_to(TOP)}: {what}\n--- expected\n{expected}--- printed\n{printed}")
     print(f"{total} commands, {failed} printed something else")
-    sys.exit(1 if failed else 0)
+    sys.exit(1 if failed or not linked else 0)
 
 
 main()
