@@ -3,6 +3,7 @@
 
     tools/dev/check_docs.py KLOG [PAGE ..]    # KLOG: the built program, crates/klog/out/klog after `rt run`
     tools/dev/check_docs.py links             # the links alone
+    tools/dev/check_docs.py print KLOG        # writes anew what is between `printed by` and `end`
 
 The pages are those at the top and in docs. In a page a block of code whose first line begins with `$ ` is a transcript:
 each such line is a command, and what follows it is what the command prints, errors too. A block under
@@ -19,6 +20,7 @@ import re
 import subprocess
 import sys
 import tempfile
+from contextlib import contextmanager
 from pathlib import Path
 
 TOP = Path(__file__).resolve().parents[2]
@@ -94,6 +96,12 @@ def check_links():
     return not failed
 
 
+def run(command, room, environment):
+    """A command that ended; what it printed has its errors too."""
+    return subprocess.run(["bash", "-c", command], cwd=room, env=environment, text=True, timeout=600,
+                          stdin=subprocess.DEVNULL, stdout=subprocess.PIPE, stderr=subprocess.STDOUT)
+
+
 def run_page(path, room, environment):
     """How many commands the page has, and those that print something else."""
     count, wrong, status = 0, [], 0
@@ -101,36 +109,64 @@ def run_page(path, room, environment):
         if name:
             (room / name).write_text(text, encoding="utf-8")
             continue
-        done = subprocess.run(["bash", "-c", f"(exit {status}); {command}"], cwd=room, env=environment, text=True, timeout=600,
-                              stdin=subprocess.DEVNULL, stdout=subprocess.PIPE, stderr=subprocess.STDOUT)
+        done = run(f"(exit {status}); {command}", room, environment)
         count, status = count + 1, done.returncode
         if done.stdout != text:
             wrong.append((f"$ {command}", text, done.stdout))
     return count, wrong + list(other_pictures(room))
 
 
-def main():
-    if len(sys.argv) < 2:
-        sys.exit(__doc__)
-    linked = check_links()
-    if sys.argv[1] == "links":
-        sys.exit(not linked)
+@contextmanager
+def own_room(klog):
+    """A folder for a page's files, and the environment of its commands, with the built program of this name."""
+    with tempfile.TemporaryDirectory() as folder:
+        room, programs = Path(folder) / "work", Path(folder) / "bin"
+        room.mkdir()
+        programs.mkdir()
+        (programs / "klog").symlink_to(Path(klog).resolve())
+        for name in ("examples", "tools"):
+            (room / name).symlink_to(TOP / name)
+        path = f"{programs}:{TOP / 'tools' / 'klogc'}:{os.environ['PATH']}"
+        yield room, {**os.environ, "PATH": path, "EXAMPLES": str(TOP / "examples")}
+
+
+def printed_by(klog, command):
+    """What a command prints that needs no file of its page."""
+    with own_room(klog) as (room, environment):
+        return run(command, room, environment).stdout
+
+
+def print_anew(klog):
+    """Writes into each page what its `printed by` commands print."""
+    for path in pages([]):
+        page = path.read_text(encoding="utf-8")
+        made = re.sub(PRINTED, lambda it: it[0].replace(it["printed"], printed_by(klog, it["command"])), page, flags=re.S)
+        if made != page:
+            path.write_text(made, encoding="utf-8")
+            print(f"{path.relative_to(TOP)}: printed anew")
+
+
+def check_commands(klog, names):
+    """Whether each command of the pages printed what they say; prints those that did not."""
     total = failed = 0
-    for path in pages(sys.argv[2:]):
-        with tempfile.TemporaryDirectory() as folder:
-            room, programs = Path(folder) / "work", Path(folder) / "bin"
-            room.mkdir()
-            programs.mkdir()
-            (programs / "klog").symlink_to(Path(sys.argv[1]).resolve())
-            for name in ("examples", "tools"):
-                (room / name).symlink_to(TOP / name)
-            environment = {**os.environ, "PATH": f"{programs}:{TOP / 'tools' / 'klogc'}:{os.environ['PATH']}", "EXAMPLES": str(TOP / "examples")}
+    for path in pages(names):
+        with own_room(klog) as (room, environment):
             count, wrong = run_page(path, room, environment)
         total, failed = total + count, failed + len(wrong)
         for what, expected, printed in wrong:
             print(f"{path.relative_to(TOP)}: {what}\n--- expected\n{expected}--- printed\n{printed}")
     print(f"{total} commands, {failed} printed something else")
-    sys.exit(1 if failed or not linked else 0)
+    return not failed
+
+
+def main():
+    if len(sys.argv) < 2:
+        sys.exit(__doc__)
+    if sys.argv[1] == "print":
+        return print_anew(sys.argv[2])
+    linked = check_links()
+    printed = sys.argv[1] == "links" or check_commands(sys.argv[1], sys.argv[2:])
+    sys.exit(not (linked and printed))
 
 
 main()
