@@ -210,7 +210,7 @@ def main():
         needed = reader.closure(CRATES / contract, name)
         every |= needed
         lemma_line(lemma_file, lemma)
-        rows.append(f"| {clause} | `{name}` | `crates/{contract}` | `{lemma}` | `crates/{lemma_file}` | {lines_of(needed)} |")
+        rows.append(f"| {clause} | `{name}` | `crates/{contract}` | `{lemma}` | `crates/{lemma_file}` | {lines_of(needed):,} |")
     if sys.argv[1:]:
         print_files(every)
         return
