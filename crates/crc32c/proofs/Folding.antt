@@ -16,26 +16,32 @@ use Rattle.crc32c.proofs.Sparse.{before_end, sparse, sum_of_five-of, sum_of_five
 -- ---- what a window adds is linear, and goes with it
 
 later-xor : (n v w : ℕ) → later n (bit_xor v w) ≡ bit_xor (later n v) (later n w)
-later-xor n v w = xor_shr v w (128 * n)
+later-xor n v w = xor_shr v w (8 * n)
 
 pub moved-xor : (v w : ℕ) → window_behind (bit_xor v w) ≡ bit_xor (window_behind v) (window_behind w)
 unfolding window_behind
 moved-xor v w = simp xor_shr (sum_of_five-xor v _ _ _ _ w _ _ _ _)
 
 later-swap : (m n w : ℕ) → later m (later n w) ≡ later n (later m w)
-later-swap m n w = rw (shr-shr, shr-shr, add_comm (128 * n))
+later-swap m n w = rw (shr-shr, shr-shr, add_comm (8 * n))
 
 moved-later : (n w : ℕ) → later n (window_behind w) ≡ window_behind (later n w)
 unfolding window_behind
 moved-later n w =
-    rw (sum_of_five-of (later n) (later-xor n), later-swap n 14, later-swap n 39, later-swap n 54, later-swap n 144)
+    rw (
+      sum_of_five-of (later n) (later-xor n),
+      later-swap n 127,
+      later-swap n 366,
+      later-swap n 945,
+      later-swap n 961,
+    )
 
 -- ---- the next block
 
 -- the first block behind a window, with what the window adds to it, and the window without its first block
 pub after_window-next : (r w x : ℕ) (block : List ℕ) (rest : List (List ℕ))
     → length block ≡ 16 → number_l 256 block < 2 ^ 128 → x ≡ bit_xor (window_behind w) (number_l 256 block) % 2 ^ 128
-    → after_window r w (block ∷ rest) ≡ after_window (remainder 128 (bit_xor r x)) (later 1 w) rest
+    → after_window r w (block ∷ rest) ≡ after_window (remainder 128 (bit_xor r x)) (later 16 w) rest
 unfolding after_window
 after_window-next r w x block rest long below is =
     let n = 128 * length rest in
@@ -47,62 +53,62 @@ after_window-next r w x block rest long below is =
     let behind : all / 2 ^ 128 ≡ others = omega (arith, spelled, below) in
     let whole = bit_xor (window_behind w) all in
     let low : whole % 2 ^ 128 ≡ x = cc (xor_mod (window_behind w) all 128, xor_mod (window_behind w) first 128) in
-    let high : whole / 2 ^ 128 ≡ bit_xor (window_behind (later 1 w)) others =
-    cc (xor_shr (window_behind w) all 128, moved-later 1 w) in
+    let high : whole / 2 ^ 128 ≡ bit_xor (window_behind (later 16 w)) others =
+    cc (xor_shr (window_behind w) all 128, moved-later 16 w) in
     let small : x < 2 ^ 128 = rw (← low) (omega arith) in
-    let parts : whole ≡ bit_xor (window_behind (later 1 w)) others * 2 ^ 128 + x = cc (shr_split whole 128) in
+    let parts : whole ≡ bit_xor (window_behind (later 16 w)) others * 2 ^ 128 + x = cc (shr_split whole 128) in
     let more : 128 * suc (length rest) ≡ 128 + n = omega arith in
     rw (more, remainder-add 128 n, xor_assoc r (window_behind w), parts, ← remainder-joined 128 r x _ small, xor_assoc)
 
 -- ---- a block that is taken away
 
--- the place of a block that is at the window's end, o blocks before it
-put_back : (o j m x : ℕ) → o + j ≡ 208 → remainder (128 * 209 + 128 * m) (later o (x * 2 ^ (128 * 208)))
-    ≡ remainder (128 * m) (before_end o (remainder 128 x))
+-- the place of a block that is at the window's end, o bytes before it
+put_back : (o j m x : ℕ) → o + j ≡ 961
+    → remainder (8 * 977 + m) (later o (x * 2 ^ (8 * 961))) ≡ remainder m (before_end o (remainder 128 x))
 put_back o j m x e =
-    let whole : 128 * 208 ≡ 128 * j + 128 * o = omega arith in
-    let steps : 128 * 209 + 128 * m ≡ 128 * j + (128 + (128 * o + 128 * m)) = omega arith in
-    let placed = rw (pow-add, ← mul_assoc, shl-shr) at (ap (λ k. x * 2 ^ k / 2 ^ (128 * o)) whole) in
-    rw (placed, steps, remainder-add (128 * j), remainder-shifted, remainder-add 128, remainder-add (128 * o))
+    let whole : 8 * 961 ≡ 8 * j + 8 * o = omega arith in
+    let steps : 8 * 977 + m ≡ 8 * j + (128 + (8 * o + m)) = omega arith in
+    let placed = rw (pow-add, ← mul_assoc, shl-shr) at (ap (λ k. x * 2 ^ k / 2 ^ (8 * o)) whole) in
+    rw (placed, steps, remainder-add (8 * j), remainder-shifted, remainder-add 128, remainder-add (8 * o))
 
 at_the_end : (p : ℕ) → before_end 0 p ≡ p
 unfolding remainder
 at_the_end p = refl
 
 -- a block at the window's end adds behind it what it counts itself
-at_end : (m x : ℕ) → x < 2 ^ 128 → remainder (128 * 209 + 128 * m) (window_behind (x * 2 ^ (128 * 208)))
-    ≡ remainder (128 * 209 + 128 * m) (remainder 128 x)
+at_end : (m x : ℕ) → x < 2 ^ 128 → remainder (8 * 977 + m) (window_behind (x * 2 ^ (8 * 961)))
+    ≡ remainder (8 * 977 + m) (remainder 128 x)
 unfolding window_behind
 at_end m x below =
     let p = remainder 128 x in
-    let wide = 128 * 209 + 128 * m in
+    let wide = 8 * 977 + m in
     let small : p < 2 ^ 32 = remainder-lt 128 x (lt_of_lt_of_le {m = 2 ^ 128} below
     (pow_mono {i = 128} {j = 160} (lit≤ tt))) in
-    let first = rw (div-one, at_the_end) at (put_back 0 208 m x refl) in
+    let first = rw (div-one, at_the_end) at (put_back 0 961 m x refl) in
     rw (
       sum_of_five-of (remainder wide) (remainder-xor wide),
       first,
-      put_back 14 194 m x refl,
-      put_back 39 169 m x refl,
-      put_back 54 154 m x refl,
-      put_back 144 64 m x refl,
-      remainder-add (128 * 209) (128 * m) p,
+      put_back 127 834 m x refl,
+      put_back 366 595 m x refl,
+      put_back 945 16 m x refl,
+      put_back 961 0 m x refl,
+      remainder-add (8 * 977) m p,
       sparse p small,
-      sum_of_five-of (remainder (128 * m)) (remainder-xor (128 * m)),
+      sum_of_five-of (remainder m) (remainder-xor m),
     )
 
 -- a block counts the same when it is taken away and the window keeps it
-pub after_window-kept : (w x : ℕ) (rest : List (List ℕ)) → x < 2 ^ 128 → w < 2 ^ (128 * 209) → 209 ≤ length rest
-    → after_window 0 (later 1 w + 2 ^ (128 * 208) * x) rest ≡ after_window (remainder 128 x) (later 1 w) rest
+pub after_window-kept : (w x : ℕ) (rest : List (List ℕ)) → x < 2 ^ 128 → w < 2 ^ (8 * 977) → 977 ≤ 16 * length rest
+    → after_window 0 (later 16 w + 2 ^ (8 * 961) * x) rest ≡ after_window (remainder 128 x) (later 16 w) rest
 unfolding after_window
 after_window-kept w x rest below fits long =
     let n = 128 * length rest in
-    let y = x * 2 ^ (128 * 208) in
-    let room : later 1 w < 2 ^ (128 * 208) = shr_below w (128 * 208) 128 fits in
-    let apart : later 1 w + 2 ^ (128 * 208) * x ≡ bit_xor y (later 1 w) =
-    omega (arith, mul_comm (2 ^ (128 * 208)) x) ∙ sym (xor_shifted x (128 * 208) (later 1 w) room) in
-    let all : 128 * 209 + 128 * (length rest - 209) ≡ n = omega arith in
-    let same = rw all at (at_end (length rest - 209) x below) in
+    let y = x * 2 ^ (8 * 961) in
+    let room : later 16 w < 2 ^ (8 * 961) = shr_below w (8 * 961) 128 fits in
+    let apart : later 16 w + 2 ^ (8 * 961) * x ≡ bit_xor y (later 16 w) =
+    omega (arith, mul_comm (2 ^ (8 * 961)) x) ∙ sym (xor_shifted x (8 * 961) (later 16 w) room) in
+    let all : 8 * 977 + (n - 8 * 977) ≡ n = omega arith in
+    let same = rw all at (at_end (n - 8 * 977) x below) in
     rw (apart, moved-xor, xor_assoc, remainder-xor n (window_behind y), same, ← remainder-xor, ← xor_assoc)
 
 -- ---- the start and the end
@@ -114,12 +120,15 @@ unfolding after_window window_behind
 after_window-start r blocks below =
     let none = λ (k : ℕ) (wide : 32 ≤ k). div-eq_of_lt
     (lt_of_lt_of_le {m = 2 ^ 32} below (pow_mono {i = 32} {j = k} wide)) in
-    rw (none (128 * 14) (lit≤ tt), none (128 * 39) (lit≤ tt), none (128 * 54) (lit≤ tt), none (128 * 144) (lit≤ tt))
+    rw (none (8 * 127) (lit≤ tt), none (8 * 366) (lit≤ tt), none (8 * 945) (lit≤ tt), none (8 * 961) (lit≤ tt))
     (simp xor_zero_r)
 
-pub after_window-end : (r w : ℕ) → w < 2 ^ (128 * 209) → after_window r (later 209 w) [] ≡ r
+pub after_window-end : (r w : ℕ) → w < 2 ^ (8 * 977) → after_window r (later 992 w) [] ≡ r
 unfolding after_window window_behind remainder
-after_window-end r w below = rw (div-eq_of_lt below) (simp xor_zero_r)
+after_window-end r w below =
+    let all : w < 2 ^ (8 * 992) = lt_of_lt_of_le {m = 2 ^ (8 * 977)} below
+    (pow_mono {i = 8 * 977} {j = 8 * 992} (lit≤ tt)) in
+    rw (div-eq_of_lt all) (simp xor_zero_r)
 
 -- a window of nothing adds nothing
 pub after_window-none : (r : ℕ) (blocks : List (List ℕ)) → length (concat blocks) ≡ 16 * length blocks

@@ -1,5 +1,5 @@
--- The generator divides y^209 + y^144 + y^54 + y^39 + y^14 + 1, where y is x^128: so what a polynomial leaves 209
--- blocks before the end is the sum of what it leaves 144, 54, 39, 14 and 0 blocks before it.
+-- The generator divides z^977 + z^961 + z^945 + z^366 + z^127 + 1, where z is x^8: so what a polynomial leaves 977
+-- bytes before the end is the sum of what it leaves 961, 945, 366, 127 and 0 bytes before it.
 use Rattle.std.proofs.Common.{◌≡◌, ℕ, zero, suc, ◌+◌, ◌*◌, ◌/◌, ◌%◌, ◌-◌, ◌^◌, ◌<◌, ◌≤◌, refl, arith, lit≤, add_comm}
 use Rattle.std.proofs.Common.{one-mul, zero-mul}
 use Rattle.std.specs.Int.Bits.{bit_xor}
@@ -19,14 +19,14 @@ pub sum_of_five-xor : (a b c d e a' b' c' d' e' : ℕ)
     ≡ bit_xor (sum_of_five a b c d e) (sum_of_five a' b' c' d' e')
 sum_of_five-xor a b c d e a' b' c' d' e' = simp xor_sorted
 
--- what a polynomial leaves `blocks` blocks before the end
+-- what a polynomial leaves `bytes` bytes before the end
 abbrev pub before_end : ℕ → ℕ → ℕ
-before_end blocks p = remainder (128 * blocks) p
+before_end bytes p = remainder (8 * bytes) p
 
 abbrev pub spread : ℕ → ℕ
-spread p = sum_of_five p (before_end 14 p) (before_end 39 p) (before_end 54 p) (before_end 144 p)
+spread p = sum_of_five p (before_end 127 p) (before_end 366 p) (before_end 945 p) (before_end 961 p)
 
-highest : before_end 209 0x8000_0000 ≡ spread 0x8000_0000
+highest : before_end 977 0x8000_0000 ≡ spread 0x8000_0000
 unfolding remainder
 highest = refl
 
@@ -43,35 +43,35 @@ spread-remainder : (n p : ℕ) → spread (remainder n p) ≡ remainder n (sprea
 spread-remainder n p =
     rw (
       sum_of_five-of (remainder n) (remainder-xor n),
-      remainder-swap n (128 * 14),
-      remainder-swap n (128 * 39),
-      remainder-swap n (128 * 54),
-      remainder-swap n (128 * 144),
+      remainder-swap n (8 * 127),
+      remainder-swap n (8 * 366),
+      remainder-swap n (8 * 945),
+      remainder-swap n (8 * 961),
     )
 
 -- a polynomial of one power
-of_power : (k j : ℕ) → k + j ≡ 31 → before_end 209 (2 ^ k) ≡ spread (2 ^ k)
+of_power : (k j : ℕ) → k + j ≡ 31 → before_end 977 (2 ^ k) ≡ spread (2 ^ k)
 of_power k j e =
     let whole : 0x8000_0000 ≡ 2 ^ k * 2 ^ j = rw e at (pow-add 2 k j) in
     let moved_down : remainder j 0x8000_0000 ≡ 2 ^ k = rw whole (remainder-shifted j (2 ^ k)) in
     rw (← moved_down, remainder-swap, highest, spread-remainder)
 
-of_sum : (p q : ℕ) → before_end 209 p ≡ spread p → before_end 209 q ≡ spread q →
-    before_end 209 (bit_xor p q) ≡ spread (bit_xor p q)
-of_sum p q e f = rw (remainder-xor (128 * 209) p q, e, f, spread-xor)
+of_sum : (p q : ℕ) → before_end 977 p ≡ spread p → before_end 977 q ≡ spread q →
+    before_end 977 (bit_xor p q) ≡ spread (bit_xor p q)
+of_sum p q e f = rw (remainder-xor (8 * 977) p q, e, f, spread-xor)
 
 remainder-none : (n : ℕ) → remainder n 0 ≡ 0
 remainder-none n = grind (arith, remainder-shifted n 0)
 
-of_none : before_end 209 0 ≡ spread 0
+of_none : before_end 977 0 ≡ spread 0
 of_none = simp remainder-none
 
-with_top : (k top : ℕ) → suc k ≤ 32 → top < 2 → before_end 209 (top * 2 ^ k) ≡ spread (top * 2 ^ k)
+with_top : (k top : ℕ) → suc k ≤ 32 → top < 2 → before_end 977 (top * 2 ^ k) ≡ spread (top * 2 ^ k)
 with_top k zero within below = rw zero-mul of_none
 with_top k (suc zero) within below = rw one-mul (of_power k (31 - k) (omega arith))
 with_top k (suc (suc top)) within below = absurd (omega arith)
 
-of_bits : (k p : ℕ) → k ≤ 32 → p < 2 ^ k → before_end 209 p ≡ spread p
+of_bits : (k p : ℕ) → k ≤ 32 → p < 2 ^ k → before_end 977 p ≡ spread p
 of_bits zero p within below =
     let none : p ≡ 0 = omega arith in
     rw none of_none
@@ -80,5 +80,5 @@ of_bits (suc k) p within below =
     let top : p / 2 ^ k < 2 = shr_below p 1 k (let e : suc k ≡ 1 + k = omega arith in rw e at below) in
     rw (← low_and_rest k p) at (of_sum _ _ (with_top k (p / 2 ^ k) within top) rest)
 
-pub sparse : (p : ℕ) → p < 2 ^ 32 → before_end 209 p ≡ spread p
+pub sparse : (p : ℕ) → p < 2 ^ 32 → before_end 977 p ≡ spread p
 sparse p below = of_bits 32 p (lit≤ tt) below

@@ -88,8 +88,8 @@ fn after_blocks(mut r: u32, blocks: &[[u8; 16]]) -> u32
     r
 }
 
-// From how many blocks on it pays to take blocks away over the window: 10 KiB.
-const MANY: usize = 640;
+// From how many blocks on it pays to take blocks away over the window: 2 KiB.
+const MANY: usize = 128;
 
 /// The checksum of the bytes, sixteen at a time by sixteen tables of 1 KiB each. It takes no memory.
 pub fn sum(bytes: &[u8]) -> u32

@@ -26,12 +26,17 @@ fn published_values(rt: HostRuntime) {
 }
 
 // Sums of strings of bytes 5a, taken bit by bit by a program of few lines in another language:
-// below the length from which blocks are taken away, at it, and behind it.
-static LONG: [(usize, u32); 4] = [
-    (10_239, 0x77bf_2845),
-    (10_240, 0x1c47_1732),
+// below the length from which blocks are taken away, at it, and behind it; where one round takes all
+// of them away, where two do, and where three do.
+static LONG: [(usize, u32); 8] = [
+    (2_047, 0x729e_bae7),
+    (2_048, 0x5f32_f3f1),
+    (2_063, 0x6e5c_56a2),
+    (9_199, 0x962c_80bd),
+    (9_200, 0x6511_b320),
     (10_255, 0x9081_e7a3),
     (16_727, 0x1eee_3b1f),
+    (17_424, 0xb530_fba5),
 ];
 
 /// The sum of the first bytes, none where there are fewer.
@@ -63,5 +68,5 @@ fn first_other_of_5a(alloc: Global, count: usize, rows: &[(usize, u32)]) -> Opti
 
 #[test]
 fn long_messages(rt: HostRuntime) {
-    all_hold(&rt, first_other_of_5a(rt.alloc(), 16_727, &LONG));
+    all_hold(&rt, first_other_of_5a(rt.alloc(), 17_424, &LONG));
 }

@@ -1,13 +1,12 @@
-use Rattle.std.proofs.Common.{◌≡◌, ◌+◌, ◌∙◌, ap, arith}
+use Rattle.std.proofs.Common.{◌∙◌, ap, arith}
 use Rattle.crc32c.specs.Window.{after_window}
 use Rattle.crc32c.proofs.Folding.{after_window-start}
 use Rattle.crc32c.proofs.window.after_many.Goals as goal
 
 pub loop-blocks-init : goal.loop-blocks-init
 loop-blocks-init c =
-    let register : c.from.result + 0 ≡ c.args.r = omega (arith, c.from.ensures) in
     record {
-      left = ap (λ w. after_window 0 w c.args.blocks.now) register
+      left = ap (λ w. after_window 0 w c.args.blocks.now) c.put_register.ensures
           ∙ after_window-start c.args.r c.args.blocks.now (omega arith);
       enough = omega arith;
     }
