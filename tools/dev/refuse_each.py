@@ -7,7 +7,7 @@ Not part of the build. From the top of the repository:
 
 `rt test` proves the crate and builds its tests. Then each test runs once with no request refused, and once for each request that
 it made in that run, with that one refused. With a word only the tests run whose names have it, as `tools/dev/refuse_each.py
-broker_tests reports::refusals`; if no crate is named, those of broker_tests whose names have `memory::`. A run passes where
+broker_tests a_refused_start`; if no crate is named, those of broker_tests whose names have `memory::`. A run passes where
 the test ends with status 0.
 For each test it prints how many requests and runs there were and how many runs passed, how often each call was refused and with
 which fault (the lines `refused CALL: FAULT` that the tests print), and in full each run that did not pass. It ends with status 1

@@ -3,14 +3,16 @@
 ghost use Rattle.std.specs.Prelude.{IfSome};
 ghost use Rattle.log_spec.specs.Logs.{FitsLog};
 
+use crate::stage::Stage;
 use batch::decode;
-use broker::Broker;
 use bytes::Bytes;
-use fixtures::{batch_at, batch_of, batch_of_copies, record_of};
+use fixtures::{batch_at, record_of};
 use part_log::Names;
 use std::alloc::{AllocError, Global};
+use std::rt::Clock;
 use std::sync::Wait;
-use wire_spec::{Batch, Record, Records};
+use std::thread::Threads;
+use wire_spec::{Batch, Records};
 
 fn stamped_records(alloc: Global, count: usize) -> Result<Records, AllocError> {
     let mut list = Vec::new(alloc);
@@ -43,52 +45,7 @@ fn read(alloc: Global, bytes: Vec<u8>) -> Option<Batch> {
     }
 }
 
-/// The bytes that a fetch from output 0 returns. None where it returns none.
-fn fetched<Id: Names, C, R: Wait>(
-    rt: &R,
-    broker: &Broker<Id, C>,
-    place: usize,
-    max: usize,
-) -> Option<Vec<u8>> {
-    match broker.fetch(rt, 0, place, max) {
-        Ok(bytes) => bytes,
-        Err(_) => None,
-    }
-}
-
-/// How many records these bytes have, if they are one batch with this base offset.
-fn records_at(alloc: Global, bytes: Vec<u8>, place: usize) -> Option<usize> {
-    match read(alloc, bytes) {
-        Some(batch) if batch.base_offset.cast_unsigned() == place as u64 => {
-            Some(batch.records.list.len())
-        }
-        _ => None,
-    }
-}
-
-fn size_at(alloc: Global, bytes: Vec<u8>, place: usize) -> Option<(usize, usize)> {
-    let size = bytes.len();
-    match records_at(alloc, bytes, place) {
-        Some(records) => Some((size, records)),
-        None => None,
-    }
-}
-
-/// How many bytes a fetch from output 0 returns, and how many records a reader finds in them. None
-/// where it returns no batch, or one that is not read.
-pub(crate) fn sizes<Id: Names, C, R: Wait>(
-    rt: &R,
-    alloc: Global,
-    broker: &Broker<Id, C>,
-    place: usize,
-    max: usize,
-) -> Option<(usize, usize)> {
-    match fetched(rt, broker, place, max) {
-        Some(bytes) => size_at(alloc, bytes, place),
-        None => None,
-    }
-}
-
+/// How many records a batch has, its base timestamp, and the last record's delta.
 fn stamps_in(batch: &Batch) -> Option<(usize, i64, i64)> {
     let records = &batch.records.list;
     match records.last() {
@@ -97,24 +54,35 @@ fn stamps_in(batch: &Batch) -> Option<(usize, i64, i64)> {
     }
 }
 
-fn stamps_of(alloc: Global, bytes: Vec<u8>) -> Option<(usize, i64, i64)> {
-    match read(alloc, bytes) {
-        Some(batch) => stamps_in(&batch),
-        None => None,
+impl<Id: Names + Send + Sync, R: Threads + Wait + Clock + Print + Sync> Stage<'_, Id, R> {
+    /// The bytes that a fetch from output 0 returns. None where it returns none.
+    fn fetched(&self, place: usize, max: usize) -> Option<Vec<u8>> {
+        match self.broker.fetch(self.rt, 0, place, max) {
+            Ok(bytes) => bytes,
+            Err(_) => None,
+        }
     }
-}
 
-/// Of a fetch from output 0: how many records, the batch's base timestamp, and the last record's
-/// delta. None where it returns no batch, or one that is not read.
-pub(crate) fn stamps<Id: Names, C, R: Wait>(
-    rt: &R,
-    alloc: Global,
-    broker: &Broker<Id, C>,
-    place: usize,
-    max: usize,
-) -> Option<(usize, i64, i64)> {
-    match fetched(rt, broker, place, max) {
-        Some(bytes) => stamps_of(alloc, bytes),
-        None => None,
+    /// How many bytes a fetch from output 0 returns, and how many records a reader finds in them. None
+    /// where it returns no batch, or one that is not read or has another base offset.
+    pub(crate) fn sizes(&self, place: usize, max: usize) -> Option<(usize, usize)> {
+        let bytes = self.fetched(place, max)?;
+        let size = bytes.len();
+        match read(self.alloc, bytes) {
+            Some(batch) if batch.base_offset.cast_unsigned() == place as u64 => {
+                Some((size, batch.records.list.len()))
+            }
+            _ => None,
+        }
+    }
+
+    /// Of a fetch from output 0: how many records, the batch's base timestamp, and the last record's
+    /// delta. None where it returns no batch, or one that is not read.
+    pub(crate) fn stamps(&self, place: usize, max: usize) -> Option<(usize, i64, i64)> {
+        let bytes = self.fetched(place, max)?;
+        match read(self.alloc, bytes) {
+            Some(batch) => stamps_in(&batch),
+            None => None,
+        }
     }
 }

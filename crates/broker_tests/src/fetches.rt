@@ -1,12 +1,9 @@
-use crate::calls::append;
-use crate::fetched::sizes;
-use crate::play::{Drained, Scene, play};
-use broker::{Broker, Ended, Until};
-use broker_fixtures::{deploy, ends};
-use catalogue::Catalogue;
+use crate::play::{Scene, play};
+use crate::stage::Stage;
+use broker::{Ended, Until};
 use fixtures::{FORWARD, batch_with};
 use part_log::Names;
-use std::alloc::Global;
+use std::rt::Clock;
 use std::sync::Wait;
 use std::test::*;
 use std::thread::Threads;
@@ -15,31 +12,9 @@ use worker::Open;
 /// A place and a number of rows, and the bytes and the records of the batch that is fetched.
 type Size = (usize, usize, (usize, usize));
 
-/// Whether the batches that are fetched from output 0 have these sizes.
-fn have_sizes<Id: Names, C, R: Wait>(
-    rt: &R,
-    alloc: Global,
-    broker: &Broker<Id, C>,
-    rows: &[Size],
-) -> bool {
-    for (place, max, want) in rows {
-        if sizes(rt, alloc, broker, *place, *max) != Some(*want) {
-            return false;
-        }
-    }
-    true
-}
-
 #[test]
 fn a_batch_takes_as_many_rows_as_it_may(rt: HostRuntime) {
-    play(
-        &rt,
-        rt.alloc(),
-        1,
-        1,
-        32,
-        Scene::Drained(Drained::FetchMany),
-    );
+    play(&rt, rt.alloc(), 1, 1, 32, Scene::FetchMany);
 }
 
 /// How often a batch is appended, and how many records it has; or of one record, the bytes of its value.
@@ -65,45 +40,44 @@ static LIMITS: [Size; 6] = [
 /// How the worker ends.
 static MANY_ENDS: [Ended; 1] = [Ended::Done(23)];
 
-pub(crate) fn fetch_many<Id: Names + Send + Sync, H: Wait + Drop + Send, R: Threads + Wait + Sync>(
-    rt: &R,
-    alloc: Global,
-    broker: &Broker<Id, Catalogue<H>>,
-) -> bool {
-    deploy(rt, alloc, broker, 0, &FORWARD) == Some(0)
-        && append_all(rt, alloc, broker, &BATCHES)
-        && ends(rt, alloc, broker, Until::Drained, &Open, &MANY_ENDS)
-        && have_sizes(rt, alloc, broker, &LIMITS)
-}
-
-/// Appends these batches; whether it could.
-fn append_all<Id: Names, C, R: Wait>(
-    rt: &R,
-    alloc: Global,
-    broker: &Broker<Id, C>,
-    rows: &[Batches],
-) -> bool {
-    for (times, count, bytes) in rows {
-        if !append_times(rt, alloc, broker, *times, *count, *bytes) {
-            return false;
-        }
+impl<Id: Names + Send + Sync, R: Threads + Wait + Clock + Print + Sync> Stage<'_, Id, R> {
+    pub(crate) fn fetch_many(&self) -> bool {
+        self.deploy(0, &FORWARD) == Some(0)
+            && self.append_all(&BATCHES)
+            && self.ends(Until::Drained, &Open, &MANY_ENDS)
+            && self.have_sizes(&LIMITS)
     }
-    true
-}
 
-/// Appends a batch so often; whether it could.
-fn append_times<Id: Names, C, R: Wait>(
-    rt: &R,
-    alloc: Global,
-    broker: &Broker<Id, C>,
-    times: usize,
-    count: usize,
-    bytes: usize,
-) -> bool {
-    for _ in 0..times {
-        if append(rt, alloc, broker, 0, batch_with(alloc, count, bytes)).is_err() {
-            return false;
+    /// Appends these batches; whether it could.
+    fn append_all(&self, rows: &[Batches]) -> bool {
+        for (times, count, bytes) in rows {
+            if !self.append_times(*times, *count, *bytes) {
+                return false;
+            }
         }
+        true
     }
-    true
+
+    /// Appends a batch so often; whether it could.
+    fn append_times(&self, times: usize, count: usize, bytes: usize) -> bool {
+        for _ in 0..times {
+            if self
+                .append(0, batch_with(self.alloc, count, bytes))
+                .is_err()
+            {
+                return false;
+            }
+        }
+        true
+    }
+
+    /// Whether the batches that are fetched from output 0 have these sizes.
+    fn have_sizes(&self, rows: &[Size]) -> bool {
+        for (place, max, want) in rows {
+            if self.sizes(*place, *max) != Some(*want) {
+                return false;
+            }
+        }
+        true
+    }
 }

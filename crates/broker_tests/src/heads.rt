@@ -1,6 +1,6 @@
 ghost use Rattle.std.specs.Prelude.{◌≡◌};
 
-use crate::calls::{Place, placed};
+use crate::stage::{Place, placed};
 use fixtures::batch_of;
 use part_log::{Cells, Head, LogFault, Names, PartCells};
 use std::alloc::Global;

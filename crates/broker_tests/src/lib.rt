@@ -10,8 +10,6 @@ mod beside;
 #[cfg(test)]
 mod books;
 #[cfg(test)]
-mod calls;
-#[cfg(test)]
 mod deploys;
 #[cfg(test)]
 mod fetched;
@@ -23,6 +21,8 @@ mod gates;
 mod heads;
 #[cfg(test)]
 mod loads;
+#[cfg(test)]
+mod log_stage;
 #[cfg(test)]
 mod logs;
 #[cfg(test)]
@@ -40,13 +40,13 @@ mod schedules;
 #[cfg(test)]
 mod since;
 #[cfg(test)]
+mod stage;
+#[cfg(test)]
 mod steps;
 #[cfg(test)]
 mod streams;
 #[cfg(test)]
 mod threads;
-#[cfg(test)]
-mod verdicts;
 #[cfg(test)]
 mod waits;
 #[cfg(test)]

@@ -1,41 +1,22 @@
-ghost use Rattle.std.specs.Prelude.{◌≡◌};
-
-use crate::calls::{Place, append, enter, placed};
-use crate::play::{Alone, Scene, play};
-use broker::{Broker, BrokerFault};
+use crate::log_stage::{LogScene, LogStage, play_log};
+use crate::play::{Scene, play};
+use crate::stage::{Place, Stage, placed};
+use broker::BrokerFault;
 use broker_fixtures::program_of;
 use catalogue::CatFault;
 use fixtures::{FORWARD, batch_of};
 use log_spec::Name;
 use out_book::BookFault;
-use part_log::{Cells, LogFault, Names, PartLog};
+use part_log::{LogFault, Names};
 use std::alloc::Global;
-use std::marker::Brand;
+use std::rt::Clock;
 use std::sync::Wait;
 use std::test::*;
-
-fn mark<Id: Names, R: Wait>(rt: &R, alloc: Global, log: &PartLog<Id>) -> Result<Place, LogFault> {
-    match (program_of(alloc, &FORWARD), Name::new("fwd")) {
-        (Some(program), Some(name)) => placed(log.mark(rt, alloc, name, 1, program)),
-        _ => Err(LogFault::Memory),
-    }
-}
+use std::thread::Threads;
 
 #[test]
 fn a_closed_log_takes_nothing(rt: HostRuntime) {
-    let alloc = rt.alloc();
-    let is_right = match Cells::new(alloc, 3) {
-        Ok(cells) => close_one::<Brand, _>(&rt, alloc, cells),
-        Err(_) => false,
-    };
-    assert!(rt; is_right);
-}
-
-fn close_one<Id: Names, R: Wait>(rt: &R, alloc: Global, cells: Cells) -> bool
-    requires { cells ≡ Id.cells 0 }
-{
-    let log: PartLog<Id> = PartLog::new(0, cells);
-    answers(rt, alloc, &log, &ENTRIES)
+    play_log(&rt, rt.alloc(), 3, LogScene::Close);
 }
 
 /// What is appended.
@@ -54,87 +35,79 @@ static ENTRIES: [(Entry, Result<Place, LogFault>); 5] = [
     (Entry::End, Err(LogFault::Closed)),
 ];
 
-/// Whether a log answers this.
-fn answers<Id: Names, R: Wait>(
-    rt: &R,
-    alloc: Global,
-    log: &PartLog<Id>,
-    rows: &[(Entry, Result<Place, LogFault>)],
-) -> bool {
-    for (entry, want) in rows {
-        if answer(rt, alloc, log, *entry) != *want {
-            return false;
+impl<Id: Names + Send + Sync, R: Threads + Wait + Clock + Print + Sync> LogStage<'_, Id, R> {
+    pub(crate) fn takes_until_closed(&self) -> bool {
+        for (entry, want) in &ENTRIES {
+            if self.answer(*entry) != *want {
+                return false;
+            }
+        }
+        true
+    }
+
+    fn answer(&self, entry: Entry) -> Result<Place, LogFault> {
+        match entry {
+            Entry::Mark => self.mark_forward(),
+            Entry::Records(count) => self.enter(batch_of(self.alloc, count, 1000)),
+            Entry::End => self.end(),
         }
     }
-    true
-}
 
-fn answer<Id: Names, R: Wait>(
-    rt: &R,
-    alloc: Global,
-    log: &PartLog<Id>,
-    entry: Entry,
-) -> Result<Place, LogFault> {
-    match entry {
-        Entry::Mark => mark(rt, alloc, log),
-        Entry::Records(count) => enter(rt, alloc, log, batch_of(alloc, count, 1000)),
-        Entry::End => placed(log.close(rt, alloc)),
+    fn mark_forward(&self) -> Result<Place, LogFault> {
+        match (program_of(self.alloc, &FORWARD), Name::new("fwd")) {
+            (Some(program), Some(name)) => {
+                placed(self.log.mark(self.rt, self.alloc, name, 1, program))
+            }
+            _ => Err(LogFault::Memory),
+        }
     }
 }
 
 #[test]
 fn a_full_log_takes_nothing(rt: HostRuntime) {
-    play(&rt, rt.alloc(), 1, 2, 1, Scene::Alone(Alone::Fill));
+    play(&rt, rt.alloc(), 1, 2, 1, Scene::Fill);
 }
 
-pub(crate) fn fill_one<Id: Names, C, R: Wait>(
-    rt: &R,
-    alloc: Global,
-    broker: &Broker<Id, C>,
-) -> bool {
-    has_counts(broker) && takes_one(rt, alloc, broker) && refuses_all(rt, alloc, broker)
-}
-
-fn has_counts<Id: Names, C>(broker: &Broker<Id, C>) -> bool {
-    broker.inputs() == 1 && broker.outputs() == 2 && broker.cells(0) == 1
-}
-
-/// A log of one cell takes one item.
-fn takes_one<Id: Names, C, R: Wait>(rt: &R, alloc: Global, broker: &Broker<Id, C>) -> bool {
-    find(broker, 0).is_none()
-        && append(rt, alloc, broker, 0, batch_of(alloc, 3, 1000)) == Ok((0, 0, 0))
-        && find(broker, 0) == Some(3)
-}
-
-/// Where the one log is full, and where there is no log.
-fn refuses_all<Id: Names, C, R: Wait>(rt: &R, alloc: Global, broker: &Broker<Id, C>) -> bool {
-    refuses(rt, alloc, broker, 0, BrokerFault::Log(LogFault::Full))
-        && refuses(rt, alloc, broker, 1, BrokerFault::Partition)
-        && find(broker, 0) == Some(3)
-        && matches!(broker.trail(rt, 1), Err(BrokerFault::Partition))
-}
-
-/// Whether a log refuses a batch and its end so.
-fn refuses<Id: Names, C, R: Wait>(
-    rt: &R,
-    alloc: Global,
-    broker: &Broker<Id, C>,
-    input: usize,
-    want: BrokerFault,
-) -> bool {
-    append(rt, alloc, broker, input, batch_of(alloc, 1, 1000)) == Err(want)
-        && placed(broker.close(rt, alloc, input)) == Err(want)
-}
-
-/// How many records the first item of an input has, if it is there.
-fn find<Id: Names, C>(broker: &Broker<Id, C>, input: usize) -> Option<u64> {
-    if input >= broker.inputs() {
-        return None;
+impl<Id: Names + Send + Sync, R: Threads + Wait + Clock + Print + Sync> Stage<'_, Id, R> {
+    pub(crate) fn fill_one(&self) -> bool {
+        self.has_counts() && self.takes_one() && self.refuses_all()
     }
-    let _some = broker.cells(input);
-    let mut note = broker.note(input, 0);
-    let item = broker.read(input, 0, &mut note)?;
-    Some(item.records())
+
+    fn has_counts(&self) -> bool {
+        self.broker.inputs() == 1 && self.broker.outputs() == 2 && self.broker.cells(0) == 1
+    }
+
+    /// A log of one cell takes one item.
+    fn takes_one(&self) -> bool {
+        self.first_records(0).is_none()
+            && self.append(0, batch_of(self.alloc, 3, 1000)) == Ok((0, 0, 0))
+            && self.first_records(0) == Some(3)
+    }
+
+    /// Where the one log is full, and where there is no log.
+    fn refuses_all(&self) -> bool {
+        self.refuses(0, BrokerFault::Log(LogFault::Full))
+            && self.refuses(1, BrokerFault::Partition)
+            && self.first_records(0) == Some(3)
+            && matches!(self.broker.trail(self.rt, 1), Err(BrokerFault::Partition))
+    }
+
+    /// Whether a log refuses a batch and its end so.
+    fn refuses(&self, input: usize, want: BrokerFault) -> bool {
+        self.append(input, batch_of(self.alloc, 1, 1000)) == Err(want)
+            && self.close(input) == Err(want)
+    }
+
+    /// How many records the first item of an input has, if it is there.
+    fn first_records(&self, input: usize) -> Option<u64> {
+        if input >= self.broker.inputs() {
+            return None;
+        }
+        let _some = self.broker.cells(input);
+        let mut note = self.broker.note(input, 0);
+        let item = self.broker.read(input, 0, &mut note)?;
+        Some(item.records())
+    }
 }
 
 static TEXTS: [(BrokerFault, &str); 15] = [

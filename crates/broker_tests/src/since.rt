@@ -1,15 +1,12 @@
 //! Rows of a book in segments, and those from an offset on.
 
-use crate::calls::append;
-use crate::fetched::{stamped, stamps};
-use crate::play::{Drained, Scene, play};
-use broker::Broker;
-use broker_fixtures::{deploy, drain};
-use catalogue::Catalogue;
+use crate::fetched::stamped;
+use crate::play::{Scene, play};
+use crate::stage::Stage;
 use fixtures::FORWARD;
 use out_book::{Book, Probes};
 use part_log::Names;
-use std::alloc::Global;
+use std::rt::Clock;
 use std::sync::Wait;
 use std::test::*;
 use std::thread::Threads;
@@ -65,112 +62,76 @@ static PARTED_RUNS: [Since; 4] = [
 
 #[test]
 fn rows_are_found_from_an_offset_on(rt: HostRuntime) {
-    play(&rt, rt.alloc(), 2, 1, 128, Scene::Drained(Drained::LookUp));
+    play(&rt, rt.alloc(), 2, 1, 128, Scene::LookUp);
 }
 
-pub(crate) fn look_up<Id: Names + Send + Sync, H: Wait + Drop + Send, R: Threads + Wait + Sync>(
-    rt: &R,
-    alloc: Global,
-    broker: &Broker<Id, Catalogue<H>>,
-) -> bool {
-    deploy(rt, alloc, broker, 0, &FORWARD) == Some(0)
-        && deploy(rt, alloc, broker, 1, &FORWARD) == Some(0)
-        && has_segments(rt, broker, 0, 0)
-        && are_found(rt, broker, &NO_RUN)
-        && is_one_run(rt, alloc, broker)
-        && are_runs(rt, alloc, broker)
-}
+impl<Id: Names + Send + Sync, R: Threads + Wait + Clock + Print + Sync> Stage<'_, Id, R> {
+    pub(crate) fn look_up(&self) -> bool {
+        self.deploy(0, &FORWARD) == Some(0)
+            && self.deploy(1, &FORWARD) == Some(0)
+            && self.has_segments(0, 0)
+            && self.are_found(&NO_RUN)
+            && self.is_one_run()
+            && self.are_runs()
+    }
 
-/// Six hundred rows are in three segments.
-fn is_one_run<Id: Names + Send + Sync, C: Send, R: Threads + Wait + Sync>(
-    rt: &R,
-    alloc: Global,
-    broker: &Broker<Id, C>,
-) -> bool {
-    add(rt, alloc, broker, 0, 600)
-        && has_segments(rt, broker, 600, 3)
-        && stamps(rt, alloc, broker, 250, 10) == Some((10, 1250, 9))
-        && are_found(rt, broker, &ONE_RUN)
-}
+    /// Six hundred rows are in three segments.
+    fn is_one_run(&self) -> bool {
+        self.add(0, 1, 600)
+            && self.has_segments(600, 3)
+            && self.stamps(250, 10) == Some((10, 1250, 9))
+            && self.are_found(&ONE_RUN)
+    }
 
-/// Twice as many are in five.
-fn are_runs<Id: Names + Send + Sync, C: Send, R: Threads + Wait + Sync>(
-    rt: &R,
-    alloc: Global,
-    broker: &Broker<Id, C>,
-) -> bool {
-    add(rt, alloc, broker, 1, 300)
-        && add(rt, alloc, broker, 0, 300)
-        && has_segments(rt, broker, 1200, 5)
-        && are_found(rt, broker, &RUNS)
-        && add_each(rt, alloc, broker, 1, 100)
-        && are_found(rt, broker, &SHORT_RUNS)
-        && add(rt, alloc, broker, 0, 1)
-        && add_each(rt, alloc, broker, 1, 5)
-        && are_found(rt, broker, &PARTED_RUNS)
-}
+    /// Twice as many are in five.
+    fn are_runs(&self) -> bool {
+        self.add(1, 1, 300)
+            && self.add(0, 1, 300)
+            && self.has_segments(1200, 5)
+            && self.are_found(&RUNS)
+            && self.add(1, 100, 1)
+            && self.are_found(&SHORT_RUNS)
+            && self.add(0, 1, 1)
+            && self.add(1, 5, 1)
+            && self.are_found(&PARTED_RUNS)
+    }
 
-/// Appends a batch of `count` records to an input, whose rows are then added to output 0.
-fn add<Id: Names + Send + Sync, C: Send, R: Threads + Wait + Sync>(
-    rt: &R,
-    alloc: Global,
-    broker: &Broker<Id, C>,
-    input: usize,
-    count: usize,
-) -> bool {
-    append(rt, alloc, broker, input, stamped(alloc, count)).is_ok() && drain(rt, alloc, broker)
-}
+    /// Appends batches of `count` records to an input, whose rows are then added to output 0.
+    fn add(&self, input: usize, batches: usize, count: usize) -> bool {
+        for _ in 0..batches {
+            if self.append(input, stamped(self.alloc, count)).is_err() {
+                return false;
+            }
+        }
+        self.drain()
+    }
 
-/// The same with as many batches of one record.
-fn add_each<Id: Names + Send + Sync, C: Send, R: Threads + Wait + Sync>(
-    rt: &R,
-    alloc: Global,
-    broker: &Broker<Id, C>,
-    input: usize,
-    count: usize,
-) -> bool {
-    for _ in 0..count {
-        if append(rt, alloc, broker, input, stamped(alloc, 1)).is_err() {
-            return false;
+    /// Whether each search finds what it should.
+    fn are_found(&self, rows: &[Since]) -> bool {
+        for (input, offset, end, least, most) in rows {
+            match self.since(*input, *offset) {
+                Some((found, looks)) if found == *end && *least <= looks && looks <= *most => {}
+                _ => return false,
+            }
+        }
+        true
+    }
+
+    /// Whether output 0 has so many rows, in so many segments.
+    fn has_segments(&self, rows: usize, segments: usize) -> bool {
+        match self.book(0) {
+            Some(book) => book.len() == rows && book.segments() == segments,
+            None => false,
         }
     }
-    drain(rt, alloc, broker)
-}
 
-/// Whether each search finds what it should.
-fn are_found<Id: Names, C, R: Wait>(rt: &R, broker: &Broker<Id, C>, rows: &[Since]) -> bool {
-    for (input, offset, end, least, most) in rows {
-        match since(rt, broker, *input, *offset) {
-            Some((found, looks)) if found == *end && *least <= looks && looks <= *most => {}
-            _ => return false,
-        }
+    /// The offset after the last row of output 0 from an input that has this offset or a greater one,
+    /// and how many places were looked at. None where the rows are not one for each offset from there
+    /// on.
+    fn since(&self, input: usize, offset: u64) -> Option<(u64, u64)> {
+        let book = self.book(0)?;
+        since_in(&book, input, offset)
     }
-    true
-}
-
-/// Whether output 0 has so many rows, in so many segments.
-fn has_segments<Id: Names, C, R: Wait>(
-    rt: &R,
-    broker: &Broker<Id, C>,
-    rows: usize,
-    segments: usize,
-) -> bool {
-    let _some = broker.outputs();
-    let book = broker.book(0).lock(rt);
-    book.len() == rows && book.segments() == segments
-}
-
-/// The offset after the last row of output 0 from an input that has this offset or a greater one, and how
-/// many places were looked at. None where the rows are not one for each offset from there on.
-fn since<Id: Names, C, R: Wait>(
-    rt: &R,
-    broker: &Broker<Id, C>,
-    input: usize,
-    offset: u64,
-) -> Option<(u64, u64)> {
-    let _some = broker.outputs();
-    let book = broker.book(0).lock(rt);
-    since_in(&book, input, offset)
 }
 
 fn since_in<Id: Names>(book: &Book<Id>, input: usize, offset: u64) -> Option<(u64, u64)> {

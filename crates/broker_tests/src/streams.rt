@@ -1,14 +1,16 @@
 //! Batches of a stream, appended as soon as each is whole.
 
-use crate::play::{Alone, Scene, play};
-use broker::{Broker, BrokerFault, StreamFault};
+use crate::play::{Scene, play};
+use crate::stage::Stage;
+use broker::{BrokerFault, StreamFault};
 use fixtures::ONE;
 use part_log::{LogFault, Names, Receipt};
-use std::alloc::Global;
 use std::io;
 use std::io::Read;
+use std::rt::Clock;
 use std::sync::Wait;
 use std::test::*;
+use std::thread::Threads;
 use wire_spec::BatchFault;
 
 /// How a reader gives its bytes: this many at a time, an interruption before each read, a failure in
@@ -66,24 +68,6 @@ pub(crate) fn reader_of(bytes: &[u8], habit: Habit) -> Pieces<'_> {
     }
 }
 
-/// What a call returns, and how many receipts it adds. None where these are not of the cells from `first`
-/// on, with one record each.
-fn stream<Id: Names, C, R: Wait>(
-    rt: &R,
-    alloc: Global,
-    broker: &Broker<Id, C>,
-    first: usize,
-    reader: &mut Pieces<'_>,
-) -> Option<Answer> {
-    let mut receipts = Vec::new(alloc);
-    let answer = broker.append_from(rt, alloc, 0, reader, 64, &mut receipts);
-    if are_from(first, &receipts) {
-        Some((answer, receipts.len()))
-    } else {
-        None
-    }
-}
-
 fn are_from<Id: Names>(first: usize, receipts: &[Receipt<Id>]) -> bool {
     let mut index = first;
     for receipt in receipts {
@@ -108,40 +92,12 @@ fn two_with(place: usize, byte: u8) -> [u8; 140] {
 
 #[test]
 fn batches_of_any_pieces_are_appended(rt: HostRuntime) {
-    play(&rt, rt.alloc(), 1, 1, 280, Scene::Alone(Alone::Pieces));
-}
-
-pub(crate) fn append_in_pieces<Id: Names, C, R: Wait>(
-    rt: &R,
-    alloc: Global,
-    broker: &Broker<Id, C>,
-) -> bool {
-    let bytes = two_with(70, 0);
-    for before in 0..140 {
-        if !is_appended(rt, alloc, broker, &bytes, before) {
-            return false;
-        }
-    }
-    true
-}
-
-/// Whether both batches are appended by pieces of one byte more than that many, after as many such pairs.
-fn is_appended<Id: Names, C, R: Wait>(
-    rt: &R,
-    alloc: Global,
-    broker: &Broker<Id, C>,
-    bytes: &[u8],
-    before: usize,
-) -> bool {
-    let size = before.wrapping_add(1);
-    let mut reader = reader_of(bytes, Habit { size, ..STEADY });
-    let answer = stream(rt, alloc, broker, before.wrapping_mul(2), &mut reader);
-    answer == Some((Ok(2), 2))
+    play(&rt, rt.alloc(), 1, 1, 280, Scene::Pieces);
 }
 
 #[test]
 fn batches_before_a_fault_stay(rt: HostRuntime) {
-    play(&rt, rt.alloc(), 1, 1, 8, Scene::Alone(Alone::Faults));
+    play(&rt, rt.alloc(), 1, 1, 8, Scene::Faults);
 }
 
 /// Two batches, whose byte at a place is another one, cut to a length; how they are read, and what is
@@ -180,48 +136,64 @@ static CASES: [Case; 8] = [
     (70, 0, 140, STEADY, (Err(FULL), 1)),
 ];
 
-pub(crate) fn meet_faults<Id: Names, C, R: Wait>(
-    rt: &R,
-    alloc: Global,
-    broker: &Broker<Id, C>,
-) -> bool {
-    answers(rt, alloc, broker, &CASES) && reads_nothing(rt, alloc, broker)
-}
-
-/// Whether these are the answers, one after the other.
-fn answers<Id: Names, C, R: Wait>(
-    rt: &R,
-    alloc: Global,
-    broker: &Broker<Id, C>,
-    cases: &[Case],
-) -> bool {
-    let mut first = 0usize;
-    for case in cases {
-        if answer_to(rt, alloc, broker, first, case) != Some(case.4) {
-            return false;
+impl<Id: Names + Send + Sync, R: Threads + Wait + Clock + Print + Sync> Stage<'_, Id, R> {
+    /// What a call returns, and how many receipts it adds. None where these are not of the cells from
+    /// `first` on, with one record each.
+    fn stream(&self, first: usize, reader: &mut Pieces<'_>) -> Option<Answer> {
+        let mut receipts = Vec::new(self.alloc);
+        let answer = self
+            .broker
+            .append_from(self.rt, self.alloc, 0, reader, 64, &mut receipts);
+        if are_from(first, &receipts) {
+            Some((answer, receipts.len()))
+        } else {
+            None
         }
-        first = first.wrapping_add(case.4.1);
     }
-    true
-}
 
-fn answer_to<Id: Names, C, R: Wait>(
-    rt: &R,
-    alloc: Global,
-    broker: &Broker<Id, C>,
-    first: usize,
-    case: &Case,
-) -> Option<Answer> {
-    let bytes = two_with(case.0, case.1);
-    let mut reader = reader_of(bytes.get(..case.2)?, case.3);
-    stream(rt, alloc, broker, first, &mut reader)
-}
+    /// Two batches are appended by pieces of each size, after as many such pairs.
+    pub(crate) fn append_in_pieces(&self) -> bool {
+        let bytes = two_with(70, 0);
+        for before in 0..140usize {
+            let size = before.wrapping_add(1);
+            let mut reader = reader_of(&bytes, Habit { size, ..STEADY });
+            if self.stream(before.wrapping_mul(2), &mut reader) != Some((Ok(2), 2)) {
+                return false;
+            }
+        }
+        true
+    }
 
-/// Whether a call that names no input partition is refused before it reads.
-fn reads_nothing<Id: Names, C, R: Wait>(rt: &R, alloc: Global, broker: &Broker<Id, C>) -> bool {
-    let mut reader = reader_of(&ONE, STEADY);
-    let mut receipts = Vec::new(alloc);
-    let answer = broker.append_from(rt, alloc, 1, &mut reader, 64, &mut receipts);
-    let is_refused = answer == Err(StreamFault::Broker(BrokerFault::Partition));
-    is_refused && reader.reads == 0 && receipts.is_empty()
+    pub(crate) fn meet_faults(&self) -> bool {
+        self.answers(&CASES) && self.reads_nothing()
+    }
+
+    /// Whether these are the answers, one after the other.
+    fn answers(&self, cases: &[Case]) -> bool {
+        let mut first = 0usize;
+        for case in cases {
+            if self.answer_to(first, case) != Some(case.4) {
+                return false;
+            }
+            first = first.wrapping_add(case.4.1);
+        }
+        true
+    }
+
+    fn answer_to(&self, first: usize, case: &Case) -> Option<Answer> {
+        let bytes = two_with(case.0, case.1);
+        let mut reader = reader_of(bytes.get(..case.2)?, case.3);
+        self.stream(first, &mut reader)
+    }
+
+    /// Whether a call that names no input partition is refused before it reads.
+    fn reads_nothing(&self) -> bool {
+        let mut reader = reader_of(&ONE, STEADY);
+        let mut receipts = Vec::new(self.alloc);
+        let answer = self
+            .broker
+            .append_from(self.rt, self.alloc, 1, &mut reader, 64, &mut receipts);
+        let is_refused = answer == Err(StreamFault::Broker(BrokerFault::Partition));
+        is_refused && reader.reads == 0 && receipts.is_empty()
+    }
 }

@@ -1,8 +1,10 @@
-use crate::play::{Beside, Scene, play};
-use broker::{Broker, BrokerFault};
+use crate::play::{Scene, play};
+use crate::stage::Stage;
+use broker::BrokerFault;
 use fixtures::batch_of;
 use part_log::{Item, LogFault, Names, Receipt, Trail};
-use std::alloc::{AllocError, Global};
+use std::alloc::AllocError;
+use std::rt::Clock;
 use std::sync::Wait;
 use std::test::*;
 use std::thread;
@@ -35,55 +37,157 @@ struct Report {
 
 #[test]
 fn producers_and_readers_share_logs(rt: HostRuntime) {
-    play(
-        &rt,
-        rt.alloc(),
-        INPUTS,
-        1,
-        CELLS,
-        Scene::Beside(Beside::Share),
-    );
+    play(&rt, rt.alloc(), INPUTS, 1, CELLS, Scene::Share);
 }
 
-/// Each log is full, and has what the threads reported of it.
-pub(crate) fn share<Id: Names + Send + Sync, C: Send, R: Threads + Wait + Sync>(
-    rt: &R,
-    alloc: Global,
-    broker: &Broker<Id, C>,
-) -> bool {
-    match run_all(rt, alloc, broker) {
-        Ok(reports) => taken_in_all(rt, alloc, broker, &reports) == Some(INPUTS * CELLS),
-        Err(_) => false,
+impl<Id: Names + Send + Sync, R: Threads + Wait + Clock + Print + Sync> Stage<'_, Id, R> {
+    /// Each log is full, and has what the threads reported of it.
+    pub(crate) fn share(&self) -> bool {
+        match self.run_all() {
+            Ok(reports) => self.taken_in_all(&reports) == Some(INPUTS * CELLS),
+            Err(_) => false,
+        }
     }
-}
 
-/// How many receipts the threads got. None where one ended badly, a log is not full, or has something
-/// else than it reported.
-fn taken_in_all<Id: Names, C, R: Wait>(
-    rt: &R,
-    alloc: Global,
-    broker: &Broker<Id, C>,
-    reports: &[Option<Report>],
-) -> Option<usize> {
-    let mut taken = 0usize;
-    for input in 0..INPUTS {
-        let here = taken_in(rt, alloc, broker, reports, input)?;
-        taken = taken.wrapping_add(here);
+    /// How many receipts the threads got. None where one ended badly, a log is not full, or has
+    /// something else than it reported.
+    fn taken_in_all(&self, reports: &[Option<Report>]) -> Option<usize> {
+        let mut taken = 0usize;
+        for input in 0..INPUTS {
+            let items = self.items_of(input)?;
+            if items.len() != CELLS {
+                return None;
+            }
+            taken = taken.wrapping_add(taken_from(reports, input, &items)?);
+        }
+        Some(taken)
     }
-    Some(taken)
-}
 
-/// The same of the threads of an input partition.
-fn taken_in<Id: Names, C, R: Wait>(
-    rt: &R,
-    alloc: Global,
-    broker: &Broker<Id, C>,
-    reports: &[Option<Report>],
-    input: usize,
-) -> Option<usize> {
-    match items_of(rt, alloc, broker, input) {
-        Some(items) if items.len() == CELLS => taken_from(reports, input, &items),
-        _ => None,
+    fn run_all(&self) -> Result<Vec<Option<Report>>, AllocError> {
+        let one = move |number: usize| -> Option<Report> {
+            if number < PRODUCERS {
+                self.produce(number)
+            } else {
+                self.consume(number % INPUTS)
+            }
+        };
+        thread::map_indices(self.rt, self.alloc, PRODUCERS + INPUTS, &one)
+    }
+
+    /// Appends until the log is full.
+    fn produce(&self, number: usize) -> Option<Report> {
+        let input = number % INPUTS;
+        let first = ((number % PRODUCERS) as i64).wrapping_mul(1_000_000);
+        let mut taken = Vec::new(self.alloc);
+        for turn in 0..CELLS {
+            let timestamp = first.wrapping_add(turn as i64);
+            match self.append_and_read(input, turn % 3 + 1, timestamp) {
+                Ok(one) => {
+                    let Ok(()) = taken.push(one) else {
+                        return None;
+                    };
+                }
+                Err(BrokerFault::Log(LogFault::Full)) => break,
+                Err(_) => return None,
+            }
+        }
+        Some(Report {
+            input,
+            taken,
+            items: 0,
+            records: 0,
+        })
+    }
+
+    /// Appends a batch, and reads back what its receipt is of. `NoProgram` where that is something
+    /// else.
+    fn append_and_read(
+        &self,
+        input: usize,
+        records: usize,
+        timestamp: i64,
+    ) -> Result<Taken, BrokerFault> {
+        match batch_of(self.alloc, records, timestamp) {
+            Some(batch) => match self.broker.append(self.rt, self.alloc, input, batch) {
+                Ok(receipt) => self.taken_of(&receipt, timestamp),
+                Err(fault) => Err(fault),
+            },
+            None => Err(BrokerFault::Memory),
+        }
+    }
+
+    fn taken_of(&self, receipt: &Receipt<Id>, timestamp: i64) -> Result<Taken, BrokerFault> {
+        match self.read(&receipt.with_item(), receipt.index()) {
+            Some((stamp, _records)) if stamp == timestamp => Ok(Taken {
+                index: receipt.index(),
+                base: receipt.base(),
+                timestamp,
+            }),
+            _ => Err(BrokerFault::NoProgram),
+        }
+    }
+
+    /// The timestamp of a batch that a trail knows, and how many records it has.
+    fn read(&self, trail: &Trail<Id>, index: usize) -> Option<(i64, u64)> {
+        let input = trail.partition();
+        if input >= self.broker.inputs() || index >= trail.len() {
+            return None;
+        }
+        let mut note = trail.note(index);
+        match self.broker.read(input, index, &mut note) {
+            Some(item) => stamp_of(item),
+            None => unreachable!(),
+        }
+    }
+
+    /// Reads the items in order as they come, at most a million times.
+    fn consume(&self, input: usize) -> Option<Report> {
+        if input >= self.broker.inputs() {
+            return None;
+        }
+        let mut items = 0;
+        let mut records = 0u64;
+        for _ in 0..READS {
+            if items >= self.broker.cells(input) {
+                break;
+            }
+            let mut note = self.broker.note(input, items);
+            match self.broker.read(input, items, &mut note) {
+                Some(item) => {
+                    records = records.wrapping_add(item.records());
+                    items += 1;
+                }
+                None => thread::yield_now(),
+            }
+        }
+        Some(Report {
+            input,
+            taken: Vec::new(self.alloc),
+            items,
+            records,
+        })
+    }
+
+    /// The batches of a log in order: the records before each, and its timestamp.
+    fn items_of(&self, input: usize) -> Option<Vec<Taken>> {
+        let trail = self.broker.trail(self.rt, input).ok()?;
+        let mut base = 0u64;
+        let mut items = Vec::new(self.alloc);
+        for index in 0..trail.len() {
+            let Some((timestamp, records)) = self.read(&trail, index) else {
+                return None;
+            };
+            let one = Taken {
+                index,
+                base,
+                timestamp,
+            };
+            let Ok(()) = items.push(one) else {
+                return None;
+            };
+            base = base.wrapping_add(records);
+        }
+        Some(items)
     }
 }
 
@@ -101,172 +205,12 @@ fn taken_from(reports: &[Option<Report>], input: usize, items: &[Taken]) -> Opti
     Some(taken)
 }
 
-fn run_all<Id: Names + Send + Sync, C: Send, R: Threads + Wait + Sync>(
-    rt: &R,
-    alloc: Global,
-    broker: &Broker<Id, C>,
-) -> Result<Vec<Option<Report>>, AllocError> {
-    let one = move |number: usize| -> Option<Report> {
-        if number < PRODUCERS {
-            produce(rt, alloc, broker, number)
-        } else {
-            consume(alloc, broker, number % INPUTS)
-        }
-    };
-    thread::map_indices(rt, alloc, PRODUCERS + INPUTS, &one)
-}
-
-/// Appends until the log is full.
-fn produce<Id: Names, C, R: Wait>(
-    rt: &R,
-    alloc: Global,
-    broker: &Broker<Id, C>,
-    number: usize,
-) -> Option<Report> {
-    let input = number % INPUTS;
-    let first = ((number % PRODUCERS) as i64).wrapping_mul(1_000_000);
-    let mut taken = Vec::new(alloc);
-    for turn in 0..CELLS {
-        let timestamp = first.wrapping_add(turn as i64);
-        match append(rt, alloc, broker, input, turn % 3 + 1, timestamp) {
-            Ok(one) => {
-                let Ok(()) = taken.push(one) else {
-                    return None;
-                };
-            }
-            Err(BrokerFault::Log(LogFault::Full)) => break,
-            Err(_) => return None,
-        }
-    }
-    Some(Report {
-        input,
-        taken,
-        items: 0,
-        records: 0,
-    })
-}
-
-/// Appends a batch, and reads back what its receipt is of. `NoProgram` where that is something else.
-fn append<Id: Names, C, R: Wait>(
-    rt: &R,
-    alloc: Global,
-    broker: &Broker<Id, C>,
-    input: usize,
-    records: usize,
-    timestamp: i64,
-) -> Result<Taken, BrokerFault> {
-    match batch_of(alloc, records, timestamp) {
-        Some(batch) => match broker.append(rt, alloc, input, batch) {
-            Ok(receipt) => taken_of(broker, &receipt, timestamp),
-            Err(fault) => Err(fault),
-        },
-        None => Err(BrokerFault::Memory),
-    }
-}
-
-fn taken_of<Id: Names, C>(
-    broker: &Broker<Id, C>,
-    receipt: &Receipt<Id>,
-    timestamp: i64,
-) -> Result<Taken, BrokerFault> {
-    match read(broker, &receipt.with_item(), receipt.index()) {
-        Some((stamp, _records)) if stamp == timestamp => Ok(Taken {
-            index: receipt.index(),
-            base: receipt.base(),
-            timestamp,
-        }),
-        _ => Err(BrokerFault::NoProgram),
-    }
-}
-
-/// The timestamp of a batch that a trail knows, and how many records it has.
-fn read<Id: Names, C>(
-    broker: &Broker<Id, C>,
-    trail: &Trail<Id>,
-    index: usize,
-) -> Option<(i64, u64)> {
-    let input = trail.partition();
-    if input >= broker.inputs() || index >= trail.len() {
-        return None;
-    }
-    let mut note = trail.note(index);
-    match broker.read(input, index, &mut note) {
-        Some(item) => stamp_of(item),
-        None => unreachable!(),
-    }
-}
-
 fn stamp_of(item: &Item) -> Option<(i64, u64)> {
     match item {
         Item::Batch(logged) => Some((logged.base_timestamp(), item.records())),
         Item::Mark { .. } => None,
         Item::End => None,
     }
-}
-
-/// Reads the items in order as they come, at most a million times.
-fn consume<Id: Names, C>(alloc: Global, broker: &Broker<Id, C>, input: usize) -> Option<Report> {
-    if input >= broker.inputs() {
-        return None;
-    }
-    let mut items = 0;
-    let mut records = 0u64;
-    for _ in 0..READS {
-        if items >= broker.cells(input) {
-            break;
-        }
-        let mut note = broker.note(input, items);
-        match broker.read(input, items, &mut note) {
-            Some(item) => {
-                records = records.wrapping_add(item.records());
-                items += 1;
-            }
-            None => thread::yield_now(),
-        }
-    }
-    Some(Report {
-        input,
-        taken: Vec::new(alloc),
-        items,
-        records,
-    })
-}
-
-/// The batches of a log in order: the records before each, and its timestamp; at the end all records.
-fn items_of<Id: Names, C, R: Wait>(
-    rt: &R,
-    alloc: Global,
-    broker: &Broker<Id, C>,
-    input: usize,
-) -> Option<Vec<Taken>> {
-    match broker.trail(rt, input) {
-        Ok(trail) => items_on(alloc, broker, &trail),
-        Err(_) => None,
-    }
-}
-
-fn items_on<Id: Names, C>(
-    alloc: Global,
-    broker: &Broker<Id, C>,
-    trail: &Trail<Id>,
-) -> Option<Vec<Taken>> {
-    let mut base = 0u64;
-    let mut items = Vec::new(alloc);
-    for index in 0..trail.len() {
-        let Some((timestamp, records)) = read(broker, trail, index) else {
-            return None;
-        };
-        let one = Taken {
-            index,
-            base,
-            timestamp,
-        };
-        let Ok(()) = items.push(one) else {
-            return None;
-        };
-        base = base.wrapping_add(records);
-    }
-    Some(items)
 }
 
 /// Whether the log has what a thread reported: each batch where its receipt says and with its base,

@@ -1,11 +1,13 @@
 //! Whether a book has the rows that it must have. The log of input partition 0 has a mark of `BOTH`
 //! and then two batches, of the values `A` and `B`.
 
-use broker::Broker;
+use crate::stage::Stage;
 use broker_fixtures::is_row;
 use out_book::Book;
 use part_log::Names;
+use std::rt::Clock;
 use std::sync::Wait;
+use std::thread::Threads;
 
 /// How many rows the first items of the log have in each output partition.
 fn rows_of_first(items: usize) -> u64 {
@@ -41,15 +43,10 @@ pub(crate) fn done_in<Id: Names>(book: &Book<Id>) -> Option<usize> {
     }
 }
 
-/// The same of the book of an output partition.
-pub(crate) fn done_of<Id: Names, C, R: Wait>(
-    rt: &R,
-    broker: &Broker<Id, C>,
-    output: usize,
-) -> Option<usize> {
-    if output >= broker.outputs() {
-        return None;
+impl<Id: Names + Send + Sync, R: Threads + Wait + Clock + Print + Sync> Stage<'_, Id, R> {
+    /// The same of the book of an output partition.
+    pub(crate) fn done_of(&self, output: usize) -> Option<usize> {
+        let book = self.book(output)?;
+        done_in(&book)
     }
-    let book = broker.book(output).lock(rt);
-    done_in(&book)
 }

@@ -1,36 +1,15 @@
 //! Workers in threads.
 
-use crate::memory::calls::fill;
 use crate::memory::making::say;
-use crate::memory::rows::done_of;
-use broker::{Broker, BrokerFault, Ended, Until};
+use crate::stage::Stage;
+use broker::{BrokerFault, Ended, Until};
 use broker_fixtures::Ending;
-use catalogue::Catalogue;
 use out_book::BookFault;
 use part_log::Names;
-use std::alloc::Global;
+use std::rt::Clock;
 use std::sync::Wait;
 use std::thread::Threads;
 use worker::Open;
-
-/// One worker, which takes a mark and two batches into two books.
-pub(crate) fn start_all<
-    Id: Names + Send + Sync,
-    H: Wait + Drop + Send,
-    R: Threads + Wait + Print + Sync,
->(rt: &R, alloc: Global, broker: &Broker<Id, Catalogue<H>>) -> Result<(), Ending> {
-    if !fill(rt, alloc, broker) {
-        return Err(Ending::Wrong("fill"));
-    }
-    if start(rt, alloc, broker) != Some(Ended::Done(3)) {
-        return Err(Ending::Wrong("start"));
-    }
-    if done_of(rt, broker, 0) == Some(3) && done_of(rt, broker, 1) == Some(3) {
-        Ok(())
-    } else {
-        Err(Ending::Wrong("rows"))
-    }
-}
 
 /// How the one worker ended, where there is just one.
 fn only(ended: &[Ended]) -> Option<Ended> {
@@ -45,18 +24,6 @@ fn only(ended: &[Ended]) -> Option<Ended> {
 enum Left {
     Nothing,
     DoneItems,
-}
-
-/// Begins a start; how its one worker ended, where there is just one.
-fn begin<Id: Names + Send + Sync, C: Send, R: Threads + Wait + Sync>(
-    rt: &R,
-    alloc: Global,
-    broker: &Broker<Id, C>,
-) -> Result<Option<Ended>, BrokerFault> {
-    match broker.start(rt, alloc, Until::Drained, &Open) {
-        Ok(ended) => Ok(only(&ended)),
-        Err(fault) => Err(fault),
-    }
 }
 
 /// What a start or its worker that was refused may leave. None where it was not refused memory.
@@ -83,38 +50,50 @@ fn refusal<R: Print>(rt: &R, started: Result<Option<Ended>, BrokerFault>) -> Opt
     }
 }
 
-/// Whether each book has the rows of its done items, or has none.
-fn have<Id: Names, C, R: Wait>(rt: &R, broker: &Broker<Id, C>, left: Left) -> bool {
-    match (done_of(rt, broker, 0), done_of(rt, broker, 1)) {
-        (Some(first), Some(second)) => left == Left::DoneItems || first == 0 && second == 0,
-        _ => false,
+impl<Id: Names + Send + Sync, R: Threads + Wait + Clock + Print + Sync> Stage<'_, Id, R> {
+    /// One worker, which takes a mark and two batches into two books.
+    pub(crate) fn start_all(&self) -> Result<(), Ending> {
+        if !self.fill_twice() {
+            return Err(Ending::Wrong("fill"));
+        }
+        if self.start_twice() != Some(Ended::Done(3)) {
+            return Err(Ending::Wrong("start"));
+        }
+        if self.done_of(0) == Some(3) && self.done_of(1) == Some(3) {
+            Ok(())
+        } else {
+            Err(Ending::Wrong("rows"))
+        }
     }
-}
 
-/// How the one worker ended, of a second start where memory was refused in the first.
-fn start<Id: Names + Send + Sync, C: Send, R: Threads + Wait + Print + Sync>(
-    rt: &R,
-    alloc: Global,
-    broker: &Broker<Id, C>,
-) -> Option<Ended> {
-    let first = begin(rt, alloc, broker);
-    if let Ok(Some(Ended::Done(items))) = first {
-        return Some(Ended::Done(items));
+    /// How the one worker ended, of a second start where memory was refused in the first.
+    fn start_twice(&self) -> Option<Ended> {
+        let first = self.start_once();
+        if let Ok(Some(Ended::Done(items))) = first {
+            return Some(Ended::Done(items));
+        }
+        match refusal(self.rt, first) {
+            Some(left) if self.have(left) => self.start_once().unwrap_or(None),
+            _ => None,
+        }
     }
-    match refusal(rt, first) {
-        Some(left) if have(rt, broker, left) => again(rt, alloc, broker),
-        _ => None,
-    }
-}
 
-/// How the one worker of a second start ended.
-fn again<Id: Names + Send + Sync, C: Send, R: Threads + Wait + Sync>(
-    rt: &R,
-    alloc: Global,
-    broker: &Broker<Id, C>,
-) -> Option<Ended> {
-    match begin(rt, alloc, broker) {
-        Ok(ended) => ended,
-        Err(_) => None,
+    /// Begins a start; how its one worker ended, where there is just one.
+    fn start_once(&self) -> Result<Option<Ended>, BrokerFault> {
+        match self
+            .broker
+            .start(self.rt, self.alloc, Until::Drained, &Open)
+        {
+            Ok(ended) => Ok(only(&ended)),
+            Err(fault) => Err(fault),
+        }
+    }
+
+    /// Whether each book has the rows of its done items, or has none.
+    fn have(&self, left: Left) -> bool {
+        match (self.done_of(0), self.done_of(1)) {
+            (Some(first), Some(second)) => left == Left::DoneItems || first == 0 && second == 0,
+            _ => false,
+        }
     }
 }

@@ -1,15 +1,15 @@
 //! Steps of a broker's book.
 
-use crate::memory::calls::fill;
 use crate::memory::making::say;
-use crate::memory::rows::{done_in, done_of};
-use broker::{Broker, BrokerFault, Stepped};
+use crate::memory::rows::done_in;
+use crate::stage::Stage;
+use broker::{BrokerFault, Stepped};
 use broker_fixtures::{Ending, step_book};
-use catalogue::Catalogue;
 use out_book::{Book, BookFault};
 use part_log::Names;
-use std::alloc::Global;
+use std::rt::Clock;
 use std::sync::Wait;
+use std::thread::Threads;
 
 const O3: BrokerFault = BrokerFault::Book(BookFault::Memory);
 
@@ -21,59 +21,43 @@ static STEPS: [Stepped; 4] = [
     Stepped::Nothing,
 ];
 
-pub(crate) fn step_all<Id: Names, H: Wait + Drop, R: Wait + Print>(
-    rt: &R,
-    alloc: Global,
-    broker: &Broker<Id, Catalogue<H>>,
-) -> Result<(), Ending> {
-    if !fill(rt, alloc, broker) {
-        return Err(Ending::Wrong("fill"));
-    }
-    for want in &STEPS {
-        if step(rt, alloc, broker, 1) != Some(*want) {
-            return Err(Ending::Wrong("step"));
+impl<Id: Names + Send + Sync, R: Threads + Wait + Clock + Print + Sync> Stage<'_, Id, R> {
+    pub(crate) fn step_all_twice(&self) -> Result<(), Ending> {
+        if !self.fill_twice() {
+            return Err(Ending::Wrong("fill"));
+        }
+        for want in &STEPS {
+            if self.step_twice(1) != Some(*want) {
+                return Err(Ending::Wrong("step"));
+            }
+        }
+        if self.done_of(1) == Some(3) && self.done_of(0) == Some(0) {
+            Ok(())
+        } else {
+            Err(Ending::Wrong("rows"))
         }
     }
-    if done_of(rt, broker, 1) == Some(3) && done_of(rt, broker, 0) == Some(0) {
-        Ok(())
-    } else {
-        Err(Ending::Wrong("rows"))
-    }
-}
 
-/// A step of an output partition's book over input partition 0.
-fn step<Id: Names, C, R: Wait + Print>(
-    rt: &R,
-    alloc: Global,
-    broker: &Broker<Id, C>,
-    output: usize,
-) -> Option<Stepped> {
-    if output >= broker.outputs() {
-        return None;
+    /// A step of an output partition's book over input partition 0, or the one after a refused one.
+    fn step_twice(&self, output: usize) -> Option<Stepped> {
+        let mut guard = self.book(output)?;
+        self.step_book_twice(&mut *guard)
     }
-    let mut guard = broker.book(output).lock(rt);
-    step_twice(rt, alloc, broker, &mut *guard)
-}
 
-/// A step of a book over input partition 0, or the one after a refused one.
-fn step_twice<Id: Names, C, R: Print>(
-    rt: &R,
-    alloc: Global,
-    broker: &Broker<Id, C>,
-    book: &mut Book<Id>,
-) -> Option<Stepped> {
-    let before = done_in(book)?;
-    for _ in 0..2 {
-        match step_book(alloc, broker, book, 0)? {
-            Ok(stepped) => return Some(stepped),
-            Err(fault) => {
-                say(rt, "step", fault);
-                let is_memory = fault == BrokerFault::Memory || fault == O3;
-                if !is_memory || done_in(book) != Some(before) {
-                    return None;
+    fn step_book_twice(&self, book: &mut Book<Id>) -> Option<Stepped> {
+        let before = done_in(book)?;
+        for _ in 0..2 {
+            match step_book(self.alloc, &self.broker, book, 0)? {
+                Ok(stepped) => return Some(stepped),
+                Err(fault) => {
+                    say(self.rt, "step", fault);
+                    let is_memory = fault == BrokerFault::Memory || fault == O3;
+                    if !is_memory || done_in(book) != Some(before) {
+                        return None;
+                    }
                 }
             }
         }
+        None
     }
-    None
 }
