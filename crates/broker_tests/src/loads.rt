@@ -12,7 +12,7 @@ use std::test::*;
 use std::thread::Threads;
 use std::{mem, thread};
 
-const LOADS: usize = 1_000;
+const LOADS: usize = 250;
 
 const TURNS: usize = 100_000_000;
 

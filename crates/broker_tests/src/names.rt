@@ -197,14 +197,14 @@ fn is_replaced<R: Wait + Drop>(
     }
 }
 
-/// Whether the first program is given up once a thousand more were loaded, and each was found.
+/// Whether the first program is given up once a hundred more were loaded, and each was found.
 fn are_replaced<R: Wait + Drop>(
     alloc: Global,
     catalogue: &mut Catalogue<R>,
     finder: &mut Finder,
     known: &Known,
 ) -> bool {
-    for version in 2..1_001 {
+    for version in 2..101 {
         if !is_replaced(alloc, catalogue, finder, known, version) {
             return false;
         }

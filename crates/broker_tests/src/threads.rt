@@ -14,7 +14,7 @@ const INPUTS: usize = 4;
 
 const PRODUCERS: usize = 8;
 
-const CELLS: usize = 65_536;
+const CELLS: usize = 8_192;
 
 const READS: usize = 1_000_000;
 
