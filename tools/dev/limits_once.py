@@ -16,13 +16,26 @@ FLOOR = ("wire_spec", "machine_spec", "log_spec")
 LEFT_OUT = re.compile(r"(_tests|fixtures)$|^(bench_.*|soak|embedding|compare_runs)$")
 NUMERAL = re.compile(r"(?<![\w.])[0-9][0-9_]*(?![\w.])")
 
-# numerals that equal a limit by chance: file, number, what the number is
+# numerals that equal a limit by chance: file or folder, number, what the number is
 CHANCE = {
     ("bpf_machine/proofs/Loads.antt", 65536): "2^16, by which the upper two of four bytes count",
     ("commands/proofs/ListLaws.antt", 65536): "the bytes of a buffered reader",
+    ("machine_spec/proofs/PartAnswers.antt", 4096): "the places that a search looks at",
+    ("machine_spec/specs/Places.antt", 4096): "the places that a search looks at",
+    ("record_parts/proofs/", 4096): "the places that a search looks at",
+    ("record_parts/specs/", 4096): "the places that a search looks at",
+    ("record_parts/src/finding.rt", 4096): "the places that a search looks at",
+    ("row_batch/src/open.rt", 65536): "from which size on a batch has all its room",
     ("row_batch/src/records.rt", 4096): "how near to its end a batch is nearly full",
+    ("rules/proofs/", 65536): "the bytes of a part that a rule looks at",
+    ("rules/specs/", 65536): "the bytes of a part that a rule looks at",
+    ("rules/src/truth.rt", 65536): "the bytes of a part that a rule looks at",
     ("varint/src/writing.rt", 16384): "2^14, the numbers of two groups of seven bits",
 }
+
+
+def is_chance(file, value):
+    return any(file.startswith(place) and value == number for place, number in CHANCE)
 
 
 def limits():
@@ -55,7 +68,7 @@ def places():
                 for number, line in code(path):
                     for numeral in NUMERAL.findall(line):
                         value = int(numeral.replace("_", ""))
-                        if value in named and (file, value) not in CHANCE:
+                        if value in named and not is_chance(file, value):
                             yield f"crates/{file}:{number}: {numeral}, {named[value]}"
 
 
