@@ -15,9 +15,10 @@ topic of four partitions. One is killed (SIGKILL) and started again at each of f
 records are written; its offsets are sent; its commit is asked and not done; its commit is done and not answered. The
 other is stopped (SIGSTOP) for longer than the group waits, so that its partitions are given away meanwhile, before and
 after it sent its offsets; and once its offsets are refused with nothing else changed. On the way the program's file is
-replaced by one that is refused, and then by another program, which rejects short values. Each record has a header, which
-its outputs have too. For the member in C every tenth record is beyond klog's limits, so that it becomes a dead letter,
-and so do those that the second program rejects.
+replaced by one that is refused, and then by another program, which rejects short values. A member that ends by itself, as
+by a fault of its client, is started again, and while the refused file stands gets the first one. Each record has a
+header, which its outputs have too. For the member in C every tenth record is beyond klog's limits, so that it becomes a
+dead letter, and so do those that the second program rejects.
 
 The outputs and the dead letters are read by a consumer of committed records, and compared, partition by partition, with
 what plain Python makes of the records, by the programs that the members said and the offsets from which on. A run takes
@@ -65,6 +66,7 @@ def drop_short(_, value):
     return [(0, _, value)] if len(value) >= 8 else None
 
 
+REFUSED = bytes(8)
 DROP_SHORT = bytes.fromhex("a502030008000000b70100000000000085000000030000009500000000000000b7000000010000009500000000000000")
 
 
@@ -117,6 +119,7 @@ class Run:
         self.front = Front(MockCluster({name: PARTITIONS for name in ("in", DEAD, *OUTPUTS)}), self.moment)
         self.lock = threading.Lock()
         self.image, self.step, self.number, self.is_over = f"{folder}/image", None, 0, threading.Event()
+        self.ended = 0
         self.replace(image("route_by_hash"))
         consumer = [f"session.timeout.ms={SESSION * 1000}", "heartbeat.interval.ms=500", "fetch.wait.max.ms=50"]
         words = [sys.executable, f"{TOP}/examples/kafka/transform_group.py", "--library", library]
@@ -173,7 +176,7 @@ class Run:
         for place, step in enumerate(PLAN):
             self.await_(lambda: all(member.partitions() for member in self.members.values()), "members")
             if place == 3:
-                self.replace(b"\0" * 8)
+                self.replace(REFUSED)
             if place == 4:
                 self.replace(DROP_SHORT)
             self.number, self.step = self.rng.randrange(1, 6), step
@@ -200,13 +203,21 @@ class Run:
             time.sleep(self.rng.uniform(0, 2))
             member.start()
 
+    def restart(self, member):
+        """Starts a member that ended by itself, as a supervisor does. To start, it needs a program that is accepted."""
+        with open(self.image, "rb") as file:
+            if file.read() == REFUSED:
+                self.replace(image("route_by_hash"))
+        self.ended += 1
+        member.start()
+
     def await_(self, test, what):
         end = time.monotonic() + LIMIT
         while not test():
             time.sleep(0.05)
             for member in self.members.values():
                 if member.process.poll() is not None and not self.is_over.is_set():
-                    member.start()  # as a supervisor does
+                    self.restart(member)
             if time.monotonic() > end:
                 self.fail(f"no {what}")
 
@@ -277,7 +288,7 @@ def tell(seed, seconds, run, outputs, dead, written):
     refused = sum("refused: " in member.text() for member in run.members.values())
     print(f"run {seed}, {seconds:.0f} s: {run.count} records, {outputs} outputs and {dead} dead letters, each once and in "
           f"order; {written} written; " + ", ".join(f"{what} {number}" for what, number in sorted(run.front.ends.items()))
-          + f"; new program from offsets {run.switches}, refused by {refused} members", flush=True)
+          + f"; new program from offsets {run.switches}, refused by {refused} members; {run.ended} ended by themselves", flush=True)
 
 
 def main():
