@@ -11,8 +11,9 @@ others with --member the member in C, which its Makefile made:
     /usr/bin/python3 tools/dev/kafka_scaling.py LIBRARY [--member MEMBER] rest 1 100 1000  # of as many idle partitions
     /usr/bin/python3 tools/dev/kafka_scaling.py LIBRARY [--member MEMBER] shares           # one joins, leaves, dies
 
-Without --member the member in Python is measured. `rates` has each form twice, in turn, and prints the better turn. One
-form is the member in C without klog, which forwards records by kafka_forward.c: what it takes less is klog's share.
+Without --member the member in Python is measured. `rates` has each form --turns times (2), in turn, and prints the best
+turn of each, and the machine's load. One form is the member in C without klog, which forwards records by kafka_forward.c:
+what it takes less is klog's share.
 
 All but `shares` take the mock cluster as it is, without the transactions of mock_kafka.py: it answers a transaction's
 requests and keeps nothing of them, which costs the members the same. The topic has 64 partitions, with --mebibytes (4) in
@@ -67,6 +68,7 @@ class Group:
     def __exit__(self, *_):
         for member in self.members:
             member.kill()
+            member.wait()
 
     def is_alive(self):
         """Whether all members run; else the last words of one end all."""
@@ -134,7 +136,10 @@ def timed(words_for, number, threads=1, is_named=True, mebibytes=4):
             waited(lambda: all(len(group.said(k, GIVEN)) >= threads for k in range(number)))
             before, begun, done = sum(group.processor(k) for k in range(number)), time.monotonic(), written(reader)
             waited(lambda: group.is_alive() and written(reader) >= count)
-            return count - done, time.monotonic() - begun, sum(group.processor(k) for k in range(number)) - before
+            took = count - done, time.monotonic() - begun, sum(group.processor(k) for k in range(number)) - before
+        reader.close()
+        cluster.close()
+    return took
 
 
 def members(given, number):
@@ -162,7 +167,8 @@ def built_without(folder):
 
 
 def rates(given):
-    """All forms in one run, each twice."""
+    """All forms in one run, each some times."""
+    load = os.getloadavg()[0]
     python = argparse.Namespace(library=given.library, member=None)
     with tempfile.TemporaryDirectory() as folder:
         alone, without = built_alone(folder), argparse.Namespace(member=built_without(folder))
@@ -170,14 +176,15 @@ def rates(given):
                  "C, 1 thread": (lambda servers: words_of(given, servers),),
                  "C, 1 thread, without klog's calls": (lambda servers: words_of(without, servers),),
                  "C, 4 threads": (lambda servers: words_of(given, servers, 4), 4),
-                 "librdkafka alone": (lambda servers: [alone, servers, "g", "in", "out", "10000"], 1, False)}
+                 "librdkafka alone": (lambda servers: [alone, servers, "g", "in", "out", "50000"], 1, False)}
         best = {}
-        for name, (words_for, *more) in [*forms.items()] * 2:
+        for name, (words_for, *more) in [*forms.items()] * given.turns:
             turn = timed(words_for, 1, *more, mebibytes=given.mebibytes)
-            best[name] = min(best.get(name, turn), turn, key=lambda it: it[2])
+            best[name] = min(best.get(name, turn), turn, key=lambda it: it[2] / it[0])
     for name, (count, seconds, processor) in best.items():
         print(f"{name}: {count / processor:,.0f} records a second of processor time, {processor / count * 1e6:.2f} us a record; "
               f"{count / seconds:,.0f} records a second by the clock", flush=True)
+    print(f"the machine's load: {load:.0f} before, {os.getloadavg()[0]:.0f} after, {os.cpu_count()} processors", flush=True)
 
 
 def rest(given, partitions):
@@ -237,6 +244,7 @@ def main():
     words.add_argument("library", type=os.path.abspath)
     words.add_argument("--member", type=os.path.abspath)
     words.add_argument("--mebibytes", type=int, default=4, choices=(1, 2, 3, 4))
+    words.add_argument("--turns", type=int, default=2)
     words.add_argument("task", choices=tasks)
     words.add_argument("numbers", nargs="*", type=int)
     given = words.parse_args()

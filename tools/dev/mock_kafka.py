@@ -16,6 +16,9 @@ And of groups its source says that
 - it doesn't notice that a connection was closed while it owes the answer to a JoinGroup there, and ends by an assertion
   (rd_kafka_mock_cgrp_member_add) as soon as that member joins by another connection.
 
+Neither it nor the front gives a producer another epoch (InitProducerId from version 3 on, KIP-360). So one of librdkafka
+ends by a fault where it asks for that.
+
 `Front` is a proxy on ports of its own that does these five, by the rules of KIP-98 and KIP-447, and hands on the rest.
 A transaction's end is a control batch in each of its partitions, and a fetch of committed records ends before the first
 open transaction and names the aborted ones. An offset is committed with its transaction alone, and one of a member
@@ -88,12 +91,19 @@ class MockCluster:
         problem = ctypes.create_string_buffer(512)
         settings = self.call("rd_kafka_conf_new", pointer)
         client = self.call("rd_kafka_new", pointer, ctypes.c_int(0), pointer(settings), problem, ctypes.c_size_t(512))
-        self.cluster = pointer(self.call("rd_kafka_mock_cluster_new", pointer, pointer(client), ctypes.c_int(1)))
+        self.client = pointer(client)
+        self.cluster = pointer(self.call("rd_kafka_mock_cluster_new", pointer, self.client, ctypes.c_int(1)))
         for name, partitions in topics.items():
             if self.call("rd_kafka_mock_topic_create", ctypes.c_int, self.cluster, name.encode(), partitions, 1):
                 raise ValueError(name)
         self.servers = self.call("rd_kafka_mock_cluster_bootstraps", ctypes.c_char_p, self.cluster).decode()
         self.own = self.connection()
+
+    def close(self):
+        """Ends the cluster, and frees its records."""
+        self.own.reset()
+        self.call("rd_kafka_mock_cluster_destroy", None, self.cluster)
+        self.call("rd_kafka_destroy", None, self.client)
 
     def connection(self, client=None):
         host, port = self.servers.split(",")[0].rsplit(":", 1)
