@@ -94,7 +94,7 @@ class Group:
             return int(re.search(r"VmRSS:\s+(\d+)", status.read()).group(1))
 
 
-def waited(test, seconds=600):
+def waited(test, seconds=1800):
     end = time.monotonic() + seconds
     while not test():
         if time.monotonic() > end:
