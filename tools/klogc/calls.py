@@ -3,7 +3,7 @@ from typing import NamedTuple
 
 from second_machine import HELPERS
 
-from .code import BASE, FRAME, LENGTH, OUTSIDE, ROOM, Bound, Call, Goto, Move, Point, PointAt, Test, Variable
+from .code import BASE, FRAME, LENGTH, OUTSIDE, ROOM, Alu, Bound, Call, Goto, Move, Point, PointAt, Test, Variable
 from .memory import Memory, bytes_text, span
 from .program import STACK
 from .state import State
@@ -11,6 +11,8 @@ from .values import LENGTH_TERMS, added, number, signed, unsigned
 from .writer import Given, region_text
 
 LOADS = {1: "value", 2: "key"}
+COPIES = ("memcpy", "memmove", "klog_memcpy", "klog_memmove")
+MOST_ROOM = 512
 
 
 class Bytes(NamedTuple):
@@ -49,6 +51,36 @@ class Calls(Memory):
             self.start(end)
         self.clobber(s)
         self.set(s, 0, number(0, most))
+
+    # ---- copies by functions of runtime.h
+
+    def is_part_copy(self, s: State, i):
+        """Whether a call copies a part of the record to a variable, which a helper does too."""
+        if self.program.runtime_function(*i[1:]) not in COPIES:
+            return False
+        to, start, count = (self.known(s, r) for r in (1, 2, 3))
+        return to.region == "stack" and start.region in LENGTH and count.region is None and unsigned(count)[1] <= MOST_ROOM
+
+    def part_copy(self, s: State):
+        """Copies a part of the record by a helper. The result is the variable's address."""
+        to, start, count = (self.operand(s, ("reg", r)) for r in (1, 2, 3))
+        region = start.value.region
+        helper = next(n for n, name in LOADS.items() if name == region)
+        part = Bytes((2, 3), start, count)
+        certain = self.is_certain(s, part)
+        if not certain:
+            self.may_fault(f"a part of the {region} is copied that may end outside: test first that its end is at most {region}_length")
+        given = {1: to, 2: Given(start.value.in_region(None), start.written), 3: count}
+        end = self.empty_room(None, given) if count.value.lo <= 0 else None
+        if unsigned(count.value)[1]:
+            self.write_call(s, helper, given)
+            if not certain:
+                self.emit(Test("ne", 64, self.name(0), 0, OUTSIDE, False))
+        if end:
+            self.emit(Goto(end))
+            self.start(end)
+        self.clobber(s)
+        self.define(s, 0, to.value, to.written)
 
     def empty_room(self, helper, given):
         """Nothing is copied to room of no bytes: the call is left out then, and goes on at the label that is given back."""
@@ -108,8 +140,7 @@ class Calls(Memory):
         if self.learned.rooms < made + 1:
             self.learned.rooms = made + 1
             self.again = True
-        end = added(v.in_region(None), n)
-        certain = s.is_inside(end, 0, v.region) or self.is_end(s, v, n)
+        certain = self.is_certain(s, part)
         if not certain:
             self.may_fault(f"a part of the {v.region} is emitted that may end outside: test first that its end is at most {v.region}_length")
         if self.room_size < 8:
@@ -125,8 +156,11 @@ class Calls(Memory):
         return Copied(to, min(self.room_size, unsigned(n)[1]))
 
     @staticmethod
-    def is_end(s: State, v, n):
-        """Whether a part at a known place, or of a known length, is known to be inside by a fact of the other number."""
+    def is_certain(s: State, part: Bytes):
+        """Whether a part of the record is known to be inside: by its end, or by a fact of its place or its length alone."""
+        v, n = part.address.value, part.length.value
+        if s.is_inside(added(v.in_region(None), n), 0, v.region):
+            return True
         if v.is_const():
             return s.is_inside(n, v.lo, v.region)
         return n.is_const() and s.is_inside(v.in_region(None), n.lo, v.region)
@@ -185,16 +219,35 @@ class Calls(Memory):
         if high < 0 or first + least > top:
             self.never(f"{bytes_text(low, low + max(least, 1))} a variable are passed on, which are outside it")
         certain = min(most, top - first)
-        if low >= 0 and top < high + most <= STACK:
+        end = s.settled(added(v.in_region(None), part.length.value))
+        if low >= 0 and 0 <= end.lo and end.hi <= top:
+            pass
+        elif low >= 0 and top < high + most <= STACK:
             self.may_reject(OUTSIDE)
         elif low < 0 or high + most > top:
             self.may_fault(f"a length of up to {most} is passed on with a variable of at most {certain} bytes: test the length first")
-        self.emit(Bound(count, least, certain, OUTSIDE))
         if v.is_const():
+            self.emit(Bound(count, least, certain, OUTSIDE))
             self.emit(PointAt(to, FRAME, adds + v.lo))
             return
-        x, add, lo, hi = self.bounded(s, part.address, 0, 0, top - certain)
+        last = top - certain
+        if least < most and low >= 0 and adds + high + most <= 0:
+            # The verifier sees that both are within the stack; that their sum is within the variable is tested here.
+            self.part_end(s, part, top)
+            certain, last = most, high
+        self.emit(Bound(count, least, certain, OUTSIDE))
+        x, add, lo, hi = self.bounded(s, part.address, 0, 0, last)
         self.emit(Point(to, FRAME, x, lo, hi, adds + add))
+
+    def part_end(self, s: State, part: Bytes, top):
+        """Tests that a part ends at `top` at the latest, where that is not known."""
+        end = s.settled(added(part.address.value.in_region(None), part.length.value))
+        if 0 <= end.lo and end.hi <= top:
+            return
+        self.may_reject(OUTSIDE)
+        x = self.temp()
+        self.emit(Alu("add", 64, x, part.address.written, part.length.written))
+        self.emit(Bound(x, 0, top, OUTSIDE))
 
     def room(self, s: State, part: Bytes):
         """The arguments of room that a helper writes."""

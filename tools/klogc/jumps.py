@@ -4,7 +4,7 @@ from typing import NamedTuple
 from .code import LENGTH, OUTSIDE, Exit, Goto, Test, Variable
 from .numbers import Numbers
 from .state import State
-from .values import M64, MIXED, Value, low32, signed, signed32, unsigned
+from .values import LIMIT, M64, MIXED, Value, low32, signed, signed32, small, unsigned
 from .writer import Given
 
 MIRRORED = {"eq": "eq", "ne": "ne", "gt": "lt", "ge": "le", "lt": "gt", "le": "ge", "set": "set", "sgt": "slt", "sge": "sle", "slt": "sgt", "sle": "sge"}
@@ -116,6 +116,8 @@ class Jumps(Numbers):
                 if not (t.narrow(test.v, *p) and t.narrow(test.w, *q)):
                     continue
                 learn(t, holds, test)
+                if not side and test.name == "set" and test.v.length_region() and test.w.is_const() and test.w.lo & test.w.lo + 1 == 0:
+                    t.divide_length(test.v.length_region(), small(test.v.c), test.w.lo + 1, 0)
             elif not (narrow_low(t, test, test.v, p) and narrow_low(t, test, test.w, q)):
                 continue
             ends[side] = t
@@ -187,6 +189,11 @@ def is_impossible(s: State, holds, test: Comparison):
     """Whether facts of numbers that are not negative say that a test can't hold."""
     if test.v.region != test.w.region or min(test.v.lo, test.w.lo) < 0 or max(test.v.hi, test.w.hi) >> 63:
         return False
+    v, w = s.settled(test.v), s.settled(test.w)
+    if v.terms and w.terms and max(v.hi, w.hi) <= LIMIT["value"]:
+        more, less = s.least_difference(v, w), s.least_difference(w, v)
+        if {"lt": more >= 0, "le": more > 0, "gt": less >= 0, "ge": less > 0, "eq": more > 0 or less > 0}.get(holds):
+            return True
     below, above = s.gap(test.v, test.w), s.gap(test.w, test.v)
     least = {"lt": (None, 0), "le": (None, 1), "eq": (1, 1), "gt": (0, None), "ge": (1, None)}.get(holds, (None, None))
     return any(gap is not None and most is not None and gap >= most for gap, most in zip((below, above), least))

@@ -12,7 +12,7 @@ from .writer import Learned, Settings, TooLong
 
 MOST_RUNS, MOST_TRIES, MOST_FILLS = 200, 40, 4
 ROUNDS = 64
-FLAT_SLOTS = 2048
+FEW_SLOTS = 2048
 LARGEST_TABLE = max(machine.TABLES)
 
 
@@ -36,15 +36,27 @@ def lower(program: Program, rounds=ROUNDS, strict=True, slots=SLOTS) -> Lowered:
     """Lowers a program. Loops are copied round by round until their end is proved; where that has no end, or takes more slots
     than an image has, the loops with the most rounds get `rounds`, and then fewer.
 
-    Compilers make two loops of one that has two ways round, and copies of a loop in a loop are many. So it is first tried
-    whether few slots are enough where both are one."""
-    if program.order(True)[1] != program.order()[1]:
-        try:
-            lowering, image = tried(program, Settings({}, FLAT_SLOTS, strict, True), Learned())
+    Of a loop in a loop the copies are many, and few where both are one; but then less is known of where each of them is. So both
+    forms are tried, with few slots first."""
+    learned = {False: Learned(), True: Learned()} if program.order().places != program.order(True).places else {False: Learned()}
+    refusals = []
+    for most in sorted({min(FEW_SLOTS, slots), slots}):
+        for flat in sorted(learned):
+            try:
+                lowering, image = tried(program, Settings({}, most, strict, flat), learned[flat])
+            except Refused as refusal:
+                refusals.append(refusal)
+                del learned[flat]
+                continue
             if image:
                 return report(lowering, image)
-        except Refused:
-            pass
+    if False not in learned:
+        raise refusals[0]
+    return limited(program, rounds, strict, slots)
+
+
+def limited(program, rounds, strict, slots):
+    """Lowers a program with loops of which the end is not proved."""
     learned, caps = Learned(), {}
     for _ in range(MOST_TRIES):
         lowering, image = tried(program, Settings(caps, slots, strict, False), learned)

@@ -1,5 +1,6 @@
 """Runs a program's blocks in an order that leads forward, a copy of each for each round of the loops around it and for each way in
 which its variables are addresses, with what is known there, and writes the code."""
+import collections
 import heapq
 from typing import NamedTuple
 
@@ -7,8 +8,12 @@ from .calls import Calls
 from .code import ENTRY, LOOP, Entry, Goto, Move, register
 from .program import Block, Place
 from .state import State
-from .values import const, length, number
+from .values import M32, M64, const, length, number
 from .writer import Ended, TooLong
+
+ABSENT = (M32, M64)
+# The copies of a block in one round for which it matters which text a variable is.
+MOST_COPIES = 8
 
 
 class Copy(NamedTuple):
@@ -24,15 +29,23 @@ def kind(v):
     return v.region if v.region is not None else "length" if v.length_region() == "key" else None
 
 
+def fine_kind(v):
+    """The same, and which text of several it is, and whether it is -1, as functions say that there is no result."""
+    if v.is_const() and (v.lo in ABSENT and v.region is None or isinstance(v.region, tuple)):
+        return v.region, v.lo
+    return kind(v)
+
+
 class Lowering(Calls):
     def __init__(self, program, settings, learned):
         super().__init__(program, settings, learned)
-        self.places, self.heads = program.order(settings.flat)
+        self.places, self.heads, self.turns = program.order(settings.flat)
         self.live = program.liveness()
         self.waiting: dict[Copy, State] = {}
         self.queue: list = []
         self.deepest: dict[Place, int] = {}
         self.unproved: set[Place] = set()
+        self.copies_of: collections.Counter = collections.Counter()
         self.arrived = 0
         self.current: Copy | None = None
 
@@ -62,12 +75,15 @@ class Lowering(Calls):
         """A way leads to a copy of a block, which has what is known on all ways to it."""
         read = [register(r) if isinstance(r, int) else register(r[1], self.copies[r[0]]) for r in self.live[place]]
         read += [name for name in s.variables if name.kind == "slot"]
-        known = [(name, kind(s.variables[name])) for name in read if name in s.variables]
-        copy = Copy(place, rounds, tuple(sorted((name, str(what)) for name, what in known if what is not None)))
+        s.keep(read)
+        copy = self.copy_of(place, rounds, [(name, fine_kind(s.variables[name])) for name in read if name in s.variables])
+        if copy not in self.waiting and self.copies_of[place, rounds] >= MOST_COPIES:
+            copy = self.copy_of(place, rounds, [(name, kind(s.variables[name])) for name in read if name in s.variables])
         if copy in self.waiting:
             self.waiting[copy] = self.waiting[copy].join(s)
             return copy
         self.waiting[copy] = s
+        self.copies_of[place, rounds] += 1
         key = []
         for at, where in enumerate(self.places[place]):
             key += [where, *rounds[at:at + 1]]
@@ -75,13 +91,17 @@ class Lowering(Calls):
         heapq.heappush(self.queue, (key, self.arrived, copy))
         return copy
 
+    @staticmethod
+    def copy_of(place, rounds, known):
+        return Copy(place, rounds, tuple(sorted((name, str(what)) for name, what in known if what is not None)))
+
     def edge(self, to, s: State):
         """Where a way from the current block leads: to a copy of a block, or to the end of a loop of too many rounds."""
         ours, theirs, k = self.heads[self.current.place], self.heads[to], 0
         while k < min(len(ours), len(theirs)) and ours[k] == theirs[k]:
             k += 1
         rounds = list(self.current.rounds[:k]) + [0] * (len(theirs) - k)
-        if theirs and theirs[-1] == to and k == len(theirs):
+        if to in self.turns and k == len(theirs):
             rounds[-1] += 1
             if rounds[-1] >= self.settings.rounds.get(to, 1 << 30):
                 self.unproved.add(to)
@@ -97,7 +117,10 @@ class Lowering(Calls):
             for slot, i in block.instructions:
                 self.here = Place(block.path, block.section, slot)
                 self.instruction(s, i, block)
-            if i[0] not in ("jump", "exit"):
+            if i[0] == "local" and self.is_part_copy(s, i):
+                self.part_copy(s)
+                self.emit(Goto(self.edge(self.here._replace(slot=self.here.slot + 1), s)))
+            elif i[0] not in ("jump", "exit"):
                 self.emit(Goto(self.edge(block.next[0], s)))
         except Ended:
             pass

@@ -2,9 +2,10 @@
 from .code import LENGTH, OUTSIDE, Alu, Change, Move, Test
 from .program import INTRINSICS
 from .state import State
-from .values import M32, M64, MIXED, REGION_OF, added, changed, const, low32, number, quotient32, result, signed, unsigned
+from .values import M32, M64, MIXED, REGION_OF, added, changed, const, low32, number, quotient32, result, signed, small, unsigned
 from .writer import Given, Writer
 
+MANY_TERMS = 4
 COMMUTATIVE = {"add", "mul", "and", "or", "xor"}
 
 
@@ -44,6 +45,9 @@ class Numbers(Writer):
     def alu(self, s: State, i):
         _, dst, source, width, name = i
         x, y = self.operand(s, ("reg", dst)), self.operand(s, source, width)
+        if name in ("add", "sub") and max(len(x.value.terms or ()), len(y.value.terms or ())) >= MANY_TERMS and x.value.terms and y.value.terms:
+            s.name_sum(max(x.value.terms, y.value.terms, key=len))
+            x, y = self.operand(s, ("reg", dst)), self.operand(s, source, width)
         v, w, region = x.value, y.value, None
         if v.region is not None or w.region is not None:
             region = self.result_region(name, width, v, w)
@@ -139,6 +143,9 @@ def related(s: State, name, width, operands, known):
     v, w = operands
     if width == 32 and (low32(v) != v or low32(w) != w):
         return known
+    if width == 32 and name == "sub" and known.lo == 0:
+        apart = s.settled(added(v, w, -1))
+        known = apart if 0 <= apart.lo and apart.hi <= M32 else known
     if width == 64 and w.is_const() and name in ("lsh", "rsh", "arsh"):
         known = shifted_back(s, name, v, w.lo, known)
     if known.c == 0 and (name == "div" or name == "rsh" and w.is_const()):
@@ -158,6 +165,9 @@ def related(s: State, name, width, operands, known):
             known = s.difference(known, n, added(const(0), less, -1)) if signed(less)[1] < 0 else known
     elif name == "mod" and w.lo > 0:
         s.learn(known, w, True)
+    divisor = w.lo + (name == "and") if w.is_const() and name in ("and", "mod") else 0
+    if v.length_region() and known.terms is not None and known.c == 0 and divisor and (name == "mod" or divisor & w.lo == 0):
+        s.remainders[known.terms] = v.length_region(), small(v.c), divisor
     return known
 
 

@@ -46,6 +46,14 @@ class Block(NamedTuple):
     next: list
 
 
+class Order(NamedTuple):
+    """Of each block its place within each loop around it, outermost first, so that edges lead forward in each; the heads of these
+    loops; and the blocks to which a way begins a round."""
+    places: dict
+    heads: dict
+    turns: set
+
+
 class Program:
     """The code that is reached from the function of a name, by its blocks."""
 
@@ -179,6 +187,12 @@ class Program:
                 return [Place(path + ((section, slot),), to, at)]
         return None
 
+    def runtime_function(self, section, slot):
+        """The name of the function of runtime.h that begins at a slot, or None."""
+        symbol, lines = self.functions.get((section, slot)), self.lines.get(section)
+        line = lines.at(8 * slot) if symbol and lines else None
+        return symbol.name if line and line.file == RUNTIME else None
+
     def line(self, place):
         """The C line of a place: of what runtime.h has, that of the call, and of what has none, the last one before it."""
         path, section, slot = place
@@ -246,10 +260,10 @@ class Program:
     # ---- loops
 
     def order(self, flat=False):
-        """Of each block its place within each loop around it, outermost first, so that edges lead forward in each; and the
-        heads of these loops. A head has the place -1 in its loop. Flat, a loop in a loop whose head is on every way round both
-        is one with it."""
-        places, heads = {}, {}
+        """The order of the blocks. A head has the place -1 in its loop. Flat, a loop and those in it are one, and a way to a head of
+        any of them begins a round."""
+        order = Order({}, {}, set())
+        places, heads, turns = order
 
         def arrange(blocks, place, around, entry):
             following = lambda n: [m for m in self.blocks[n].next if m in blocks and m not in around[-1:]]
@@ -259,25 +273,32 @@ class Program:
                     continue
                 inside = set(part)
                 head = self._head(part, inside, blocks, around, entry)
-                head = flat and self._common_head(inside, head) or head
+                if flat:
+                    self._flatten(inside, head, place + (at,), order)
+                    continue
+                turns.add(head)
                 places[head], heads[head] = place + (at, -1), around + (head,)
                 inside.discard(head)
                 if inside:
                     arrange(inside, place + (at,), around + (head,), None)
 
         arrange(set(self.blocks), (), (), self.entry)
-        return places, heads
+        return order
 
-    def _common_head(self, inside, head):
-        """The head of the one loop that is left in a loop without its head, if that is on all ways round; or None."""
-        following = lambda without: lambda n: [m for m in self.blocks[n].next if m in inside and m != without]
-        rings = lambda without: [part for part in components(inside - {without}, following(without), None)
-                                 if len(part) > 1 or part[0] in self.blocks[part[0]].next]
-        left = rings(head)
-        if len(left) != 1:
-            return None
-        inner = self._head(left[0], set(left[0]), inside, (), None)
-        return None if rings(inner) else inner
+    def _flatten(self, inside, first, place, order: Order):
+        """Places of the blocks of a loop in one round, in which no way leads to a head of it or of a loop in it."""
+        turns, left = set(), [(inside, first)]
+        while left:
+            blocks, head = left.pop()
+            turns.add(head)
+            rest = blocks - {head}
+            following = lambda n: [m for m in self.blocks[n].next if m in rest]
+            left += [(set(part), self._head(part, set(part), inside, (), None)) for part in components(rest, following, None)
+                     if len(part) > 1 or part[0] in self.blocks[part[0]].next]
+        order.turns.update(turns)
+        forward = lambda n: [m for m in self.blocks[n].next if m in inside and m not in turns]
+        for at, (block,) in enumerate(components(inside, forward, first)):
+            order.places[block], order.heads[block] = place + (at,), (first,)
 
     def _head(self, part, inside, blocks, around, entry):
         """The block of a loop to which others lead, the first of them in the code."""

@@ -198,6 +198,8 @@ def result(name, bits, a, b):
         return number(al * bl, ah * bh) if ah * bh < end else number(0, end - 1)
     if name == "and":
         return anded(a, b)
+    if name == "xor" and bits == 64 and b.is_const() and b.lo == M64:
+        return added(b, a, -1)
     if name in ("or", "xor"):
         return ored(name, a, b)
     if name in ("lsh", "rsh", "arsh"):

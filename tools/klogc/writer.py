@@ -18,7 +18,7 @@ class Ended(Exception):
 
 class Settings(NamedTuple):
     """How many rounds of which loops are copied, by their heads, if not all; how many slots there may be; whether a program is
-    refused that may read outside its bytes, or has a test for it; and whether loops in loops are one (Program.order)."""
+    refused that may read outside its bytes, or has a test for it; and whether loops are one with those in them (Program.order)."""
     rounds: dict
     slots: int
     strict: bool
