@@ -92,6 +92,7 @@ fi
 
 check documents "clang xxd" tools/dev/check_docs.py "$klog"
 check limits "" tools/dev/limits_once.py
+check rules "" tools/dev/rules_meaning_test.py
 check klogc "clang" python3 -B -m unittest discover -s tools/klogc/tests -t tools
 check graphs "" tools/dev/graph_test.py --klog "$klog"
 check transforms "clang" tools/klogc/klogc table examples/c/transforms --klog "$klog"

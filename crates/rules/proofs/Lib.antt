@@ -12,3 +12,4 @@ pub mod ConditionsAgain
 pub mod ActionsAgain
 pub mod PlainRules
 pub mod RulesAgain
+pub mod WorkedOutcomes

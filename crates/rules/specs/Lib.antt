@@ -1,6 +1,7 @@
 pub mod Numbers
 pub mod Lines
 pub mod Meaning
+pub mod Outcomes
 pub mod Faults
 pub mod Scanning
 pub mod Reading
