@@ -1,76 +1,97 @@
-"""The helpers over parts of a record in the second implementation, written from docs/machine.md alone."""
+"""What the helpers over parts of a record answer, in the second implementation (docs/machine.md)."""
+import re
+
+MOST_PLACES, MOST_DIGITS, MOST_VALUE, MOST_KEY, MOST_EMISSIONS = 4095, 18, 1048576, 4096, 16
+MULTIPLIER, SEED = 0x5BD1E995, 0x9747B28C
+M32 = (1 << 32) - 1
+EMITS = (3, 4, 5, 6, 20, 21)
 
 
 def part(record, number):
-    """The bytes of the part with a number, `None` of a null one; and whether the record has it."""
+    """A part of a record by its number: a list of its bytes, or of None if it is null; an empty one where the record lacks it."""
     if number < 2:
-        return (record.key if number else record.value), True
-    at, kind = number // 2 - 1, number % 2
-    if at >= len(record.headers):
-        return None, False
-    return record.headers[at][kind], True
+        return [record.key if number else record.value]
+    return [header[number % 2] for header in record.headers[number // 2 - 1:number // 2]]
 
 
-def bytes_of(record, number):
-    return part(record, number)[0] or b""
+def part_bytes(record, number):
+    return next(iter(part(record, number)), None) or b""
 
 
-def length_answer(record, number):
-    text, there = part(record, number)
-    return 0 if not there else 1 if text is None else len(text) + 2
+def part_length(record, number):
+    found = part(record, number)
+    return 0 if not found else 1 if found[0] is None else len(found[0]) + 2
 
 
-def find_answer(text, needle, place):
-    """The least place from the given one on, and at most 4,095 past it, at which all these bytes stand, plus 1."""
-    if place > len(text):
+def has(data, place, count):
+    return place + count <= len(data)
+
+
+def find(data, place, those):
+    if place > len(data):
         return 0
-    return text.find(needle, place, place + 4095 + len(needle)) + 1
+    return data.find(those, place, place + MOST_PLACES + len(those)) + 1
 
 
-def equals_answer(text, needle, place):
-    return int(place <= len(text) and text[place:place + len(needle)] == needle)
+def equals(data, place, those):
+    return int(has(data, place, len(those)) and data[place:place + len(those)] == those)
 
 
-def decimal_answer(text, place, count):
-    digits = text[place:place + count]
-    if not 1 <= count <= 18 or len(digits) < count or any(it not in b"0123456789" for it in digits):
-        return 0
-    return int(digits) + 1
+def decimal(data, place, count):
+    digits = data[place:place + count] if 1 <= count <= MOST_DIGITS and has(data, place, count) else b""
+    return int(digits) + 1 if re.fullmatch(rb"[0-9]+", digits) else 0
 
 
 def murmur2(data):
-    """Murmur2 of 32 bits, with the seed of Kafka's clients."""
-    mask, multiplier = 0xFFFFFFFF, 0x5BD1E995
-    hashed = 0x9747B28C ^ len(data)
-    whole = len(data) // 4 * 4
-    for at in range(0, whole, 4):
-        word = int.from_bytes(data[at:at + 4], "little") * multiplier & mask
-        hashed = (hashed * multiplier & mask) ^ ((word ^ word >> 24) * multiplier & mask)
-    if whole < len(data):
-        hashed = (hashed ^ int.from_bytes(data[whole:], "little")) * multiplier & mask
-    hashed = (hashed ^ hashed >> 13) * multiplier & mask
-    return hashed ^ hashed >> 15
+    """The hash by which Kafka's clients choose a partition, with its sign bit."""
+    n = SEED ^ len(data)
+    for at in range(0, len(data) & -4, 4):
+        k = int.from_bytes(data[at:at + 4], "little") * MULTIPLIER & M32
+        n = (n * MULTIPLIER & M32) ^ ((k ^ k >> 24) * MULTIPLIER & M32)
+    rest = data[len(data) & -4:]
+    if rest:
+        n = (n ^ int.from_bytes(rest, "little")) * MULTIPLIER & M32
+    n = (n ^ n >> 13) * MULTIPLIER & M32
+    return n ^ n >> 15
 
 
-def hash_answer(record, number):
-    text = part(record, number)[0]
-    return 0 if text is None else murmur2(text) & 0x7FFFFFFF
+def hash_of(record, number):
+    found = part(record, number)
+    return murmur2(found[0]) & M32 >> 1 if found and found[0] is not None else 0
 
 
-def header_answer(record, key):
-    return next((at + 1 for at, (name, _) in enumerate(record.headers) if name == key), 0)
+def header(record, key):
+    return next((at for at, (name, _) in enumerate(record.headers, 1) if name == key), 0)
 
 
-def cut(record, number, place, count):
-    """So many bytes of a part from a place on; None if they are not all there."""
-    text = bytes_of(record, number)
-    return text[place:place + count] if place + count <= len(text) else None
+def answer(helper, record, numbers, named):
+    """What the helpers 13 and 15 to 19 answer, of their numbers and the bytes that they are given."""
+    data = part_bytes(record, numbers[0]) if numbers else b""
+    if helper == 13:
+        return part_length(record, numbers[0])
+    if helper == 15:
+        return find(data, numbers[1], named[0])
+    if helper == 16:
+        return equals(data, numbers[1], named[0])
+    if helper == 17:
+        return decimal(data, numbers[1], numbers[2])
+    return hash_of(record, numbers[0]) if helper == 18 else header(record, named[0])
 
 
-def changed(record, place, count, others):
-    """The value with a piece replaced, and the code of an emission of it: 4 if it lacks the piece, 5 if it gets too long."""
-    text = bytes_of(record, 0)
-    if place + count > len(text):
-        return None, 4
-    text = text[:place] + others + text[place + count:]
-    return text, 5 if len(text) > 1048576 else 0
+def emission(helper, record, numbers, named):
+    """What a helper emits: a key, a value and headers, and the code for which it emits nothing, or 0."""
+    if helper in (20, 21):
+        data = part_bytes(record, numbers[1]) if helper == 20 else record.value or b""
+        place, count = numbers[-2:]
+        value = data[place:place + count] if helper == 20 else data[:place] + named[0] + data[place + count:]
+        code = 4 if not has(data, place, count) else 5 if len(value) > MOST_VALUE else 0
+        return (record.key, value, record.headers), code
+    return {3: lambda: (record.key, record.value, record.headers), 4: lambda: (record.key, named[0], []),
+            5: lambda: (named[0], named[1], []), 6: lambda: (record.key, None, [])}[helper](), 0
+
+
+def emitted(helper, record, numbers, named, outputs, before):
+    """The emit code of a helper, and what it emits if that is 0; `before` emissions were made."""
+    made, code = emission(helper, record, numbers, named)
+    answered = 1 if numbers[0] >= outputs else 2 if len(made[0] or b"") > MOST_KEY else 3 if before >= MOST_EMISSIONS else code
+    return answered, made

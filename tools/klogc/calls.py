@@ -11,6 +11,7 @@ from .values import LENGTH_TERMS, added, number, signed, unsigned
 from .writer import Given, region_text
 
 LOADS = {1: "value", 2: "key"}
+LOAD_PART, EQUALS = 14, 16
 COPIES = ("memcpy", "memmove", "klog_memcpy", "klog_memmove")
 MOST_ROOM = 512
 
@@ -95,11 +96,24 @@ class Calls(Memory):
             whole = LENGTH[LOADS[helper]]
             test = ("lt", 64, whole, place.written) if not isinstance(place.written, Variable) else ("gt", 64, place.written, whole)
             self.emit(Test(*test, end, False))
-        self.emit(Move(self.name(0), 0, 64))
+        if helper == LOAD_PART:
+            self.end_test(given)
+        else:
+            self.emit(Move(self.name(0), 0, 64))
         self.emit(Goto(end))
         self.start(some)
         given[3] = Given(number(1, unsigned(n)[1], None, n.terms, n.c), length)
         return end
+
+    def end_test(self, given):
+        """The answer of load_part for no bytes: whether no bytes stand at the place, which another helper says."""
+        part, place, address, count = (self.argument(r) for r in (1, 2, 3, 4))
+        self.emit(Move(part, given[4].written, 64))
+        self.emit(Move(place, given[2].written, 64))
+        self.emit(PointAt(address, BASE["value"], 0))
+        self.emit(Move(count, 0, 64))
+        self.emit(Call(EQUALS, (part, place, address, count), self.name(0)))
+        self.emit(Alu("xor", 64, self.name(0), self.name(0), 1))
 
     def write_call(self, s: State, helper, given):
         numbers, pairs, rooms, _ = HELPERS[helper]

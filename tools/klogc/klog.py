@@ -35,24 +35,28 @@ class Klog:
         except subprocess.TimeoutExpired:
             raise Refused(f"{self.program} takes more than {SECONDS} seconds") from None
 
-    def check(self, image, table):
-        """The fault of an image, or None."""
+    def check(self, data):
+        """The fault of a program file, or None."""
         with tempfile.TemporaryDirectory(prefix="klogc-") as folder:
-            path = os.path.join(folder, "image.bin")
+            path = os.path.join(folder, "it.program")
             with open(path, "wb") as it:
-                it.write(image)
-            done = self.call("check", path, *([str(table)] if table > 1 else []))
-        return None if re.fullmatch(r"accepted \d+ instructions\n", done.stdout) else done.stderr.strip() or f"status {done.returncode}"
+                it.write(data)
+            done = self.call("check", path)
+        said = done.stderr.strip().split("\n")[0]
+        return None if re.fullmatch(r"accepted \d+ instructions\n", done.stdout) else said or f"status {done.returncode}"
 
-    def outcomes(self, image, table, records: list[Record], outputs):
-        """Of each record its reject code or its emissions. Each is the first record of an input of its own."""
+    def outcomes(self, data, records: list[Record], outputs):
+        """Of each record its reject code or its emissions, by a program file. Each is the first record of an input of its own."""
         found = []
-        for at in range(0, len(records), INPUTS):
-            found += self._outcomes(image, table, records[at:at + INPUTS], outputs)
+        with tempfile.NamedTemporaryFile(prefix="klogc-") as program:
+            program.write(data)
+            program.flush()
+            for at in range(0, len(records), INPUTS):
+                found += self._outcomes(program.name, records[at:at + INPUTS], outputs)
         return found
 
-    def _outcomes(self, image, table, records, outputs):
-        lines = [f"partitions {len(records)} {outputs} 8", f"load it hex:{image.hex()}" + (f" {table}" if table > 1 else "")]
+    def _outcomes(self, program, records, outputs):
+        lines = [f"partitions {len(records)} {outputs} 8", f"load it {program}"]
         for k, record in enumerate(records):
             batch = spell([Spelled(0, record.key, record.value, record.headers)], record.timestamp, -1, 0)
             lines += [f"deploy {k} it", f"append {k} hex:{batch.hex()}"]

@@ -1,6 +1,7 @@
 """From an object to an image: the lowering, registers and layout, run again until they agree on the stack and on loops' rounds."""
 from typing import NamedTuple
 
+import program_files
 import second_machine as machine
 
 from .code import TRAPS
@@ -24,6 +25,15 @@ class Lowered(NamedTuple):
     lines: list
     codes: dict
     loops: dict
+
+    def file(self):
+        """The program file: a line at each slot at which the C line changes."""
+        lines, last = [], None
+        for slot, line in zip(machine.decode(self.data).slots, self.lines):
+            if line not in (None, last):
+                lines.append(f"{slot} {line}\n")
+                last = line
+        return program_files.written(self.table, self.data, "".join(lines).encode("utf-8", "replace"))
 
 
 def table_of(code):

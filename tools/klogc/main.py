@@ -1,10 +1,11 @@
 """The calls of klogc.
 
-    klogc build SOURCE.c [-o IMAGE]     compiles, lowers and verifies a transform, and writes its image
+    klogc build SOURCE.c [-o PROGRAM]   compiles, lowers and verifies a transform, and writes its program file
     klogc test SOURCE.c                 builds it and runs the examples in its first comment
-    klogc run SOURCE.c or IMAGE < LINES runs it on records, one a line
+    klogc run SOURCE.c or PROGRAM < LINES
+                                        runs it on records, one a line
     klogc image OBJECT IMAGE            makes the image of an object that clang wrote
-    klogc graph IMAGE                   draws what the verifier knows of a program
+    klogc graph PROGRAM                 draws what the verifier knows of a program
     klogc table FOLDER                  builds and tests the transforms of a folder
 """
 import argparse
@@ -13,6 +14,7 @@ import stat
 import sys
 import tempfile
 
+import program_files
 import second_machine
 
 from .compiler import LEVEL, Compiler
@@ -73,7 +75,7 @@ def checked(program, given) -> Lowered:
     """Lowers a program, and has klog check the image, if there is a klog."""
     made = lower(program, given.rounds, not given.reject)
     if found_klog(given.klog):
-        fault = Klog(given.klog).check(made.data, made.table)
+        fault = Klog(given.klog).check(made.file())
         if fault:
             raise Refused(f"klog refuses the image, and klogc had accepted it: {fault}", line_of_fault(made, fault))
     return made
@@ -104,9 +106,7 @@ def said(image: Lowered, name):
 def build(given):
     made = built(given, given.source)
     target = given.output or os.path.splitext(given.source)[0] + ".bin"
-    write_whole(target, made.image.data)
-    if given.lines:
-        write_whole(given.lines, "".join(f"{k} {line or '-'}\n" for k, line in enumerate(made.image.lines)).encode())
+    write_whole(target, made.image.data if given.image else made.image.file())
     print_said(made.image, target, given)
 
 
@@ -146,7 +146,7 @@ def test(given):
     if given.trace is not None:
         print_trace(given, made, cases)
         return
-    got = Klog(given.klog).outcomes(made.image.data, made.image.table, [case.record for case in cases], OUTPUTS)
+    got = Klog(given.klog).outcomes(made.image.file(), [case.record for case in cases], OUTPUTS)
     wrong = 0
     for number, (case, outcome) in enumerate(zip(cases, got), 1):
         for text in differences(case, meant(made.program, case.record, OUTPUTS), outcome):
@@ -172,23 +172,27 @@ def print_trace(given, made, cases):
 
 # ---- run
 
+def program_file(name):
+    """The program file of a name; that of an image has the least table that has its helpers, and no lines."""
+    data = read(name, "rb")
+    try:
+        if data.startswith(program_files.MARK):
+            program_files.read(data)
+            return data
+        return program_files.written(table_of(second_machine.decode(data)), data, b"")
+    except (second_machine.Refused, program_files.Refused) as fault:
+        raise Refused(f"no program: {fault}", name) from None
+
+
 def run(given):
-    if given.source.endswith(".c"):
-        image = built(given, given.source).image
-        data, table = image.data, image.table
-    else:
-        data = read(given.source, "rb")
-        try:
-            table = table_of(second_machine.decode(data))
-        except second_machine.Refused as fault:
-            raise Refused(f"no image: {fault}", given.source) from None
+    data = built(given, given.source).image.file() if given.source.endswith(".c") else program_file(given.source)
     records = []
     for number, line in enumerate(sys.stdin.buffer.read().decode("utf-8", "surrogateescape").splitlines(), 1):
         try:
             records.append(record_of(line))
         except Malformed as fault:
             raise Refused(f"no record: {fault}; a record is KEY | VALUE", f"line {number}") from None
-    for outcome in Klog(given.klog).outcomes(data, table, records, OUTPUTS):
+    for outcome in Klog(given.klog).outcomes(data, records, OUTPUTS):
         print(shown_wanted(outcome))
 
 
@@ -244,16 +248,16 @@ def lowering_words(words):
 def words_of():
     words = argparse.ArgumentParser(prog="klogc", description="From a transform in C to a tested program of klog.")
     calls = words.add_subparsers(dest="call", required=True, metavar="CALL")
-    each = calls.add_parser("build", help="compiles, lowers and verifies a transform, and writes its image")
+    each = calls.add_parser("build", help="compiles, lowers and verifies a transform, and writes its program file")
     each.add_argument("source", metavar="SOURCE.c")
-    each.add_argument("-o", dest="output", metavar="IMAGE", help="the image, SOURCE.bin if not given")
-    each.add_argument("--lines", metavar="FILE", help="a file that gets the C line of each instruction")
+    each.add_argument("-o", dest="output", metavar="PROGRAM", help="the file, SOURCE.bin if not given")
+    each.add_argument("--image", action="store_true", help="write the image alone, without its table and C lines")
     finish(each, build, compiler_words, lowering_words)
     each = calls.add_parser("test", help="builds a transform and runs the examples in its first comment")
     each.add_argument("source", metavar="SOURCE.c")
     each.add_argument("--trace", type=int, metavar="N", help="prints what example N does, instruction by instruction")
     finish(each, test, compiler_words, lowering_words)
-    each = calls.add_parser("run", help="runs a transform, or an image, on records from standard input, one a line")
+    each = calls.add_parser("run", help="runs a transform, or a program, on records from standard input, one a line")
     each.add_argument("source", metavar="PROGRAM")
     finish(each, run, compiler_words, lowering_words)
     each = calls.add_parser("image", help="makes the image of an object that clang wrote, as build does")
@@ -261,8 +265,8 @@ def words_of():
     each.add_argument("image", metavar="IMAGE")
     finish(each, image, lowering_words)
     each = calls.add_parser("graph", help="draws what the verifier knows of a program, as text for Graphviz")
-    each.add_argument("source", metavar="IMAGE")
-    each.add_argument("--table", type=int, choices=sorted(second_machine.TABLES), default=1, help="the program's helper table, 1 if not given")
+    each.add_argument("source", metavar="PROGRAM")
+    each.add_argument("--table", type=int, choices=sorted(second_machine.TABLES), default=1, help="an image's helper table, 1 if not given")
     finish(each, graph)
     each = calls.add_parser("table", help="builds and tests the transforms of a folder, and prints a table in Markdown")
     each.add_argument("source", metavar="FOLDER")

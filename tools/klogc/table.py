@@ -70,7 +70,7 @@ def row(path, build: Build, klog: Klog) -> Row:
         made = build(path)
     except Refused as fault:
         return Row(name[:-2], description(text), 0, str(fault), [])
-    outcomes = klog.outcomes(made.image.data, made.image.table, [case.record for case in cases], OUTPUTS)
+    outcomes = klog.outcomes(made.image.file(), [case.record for case in cases], OUTPUTS)
     wrong = list(wrong_examples(name, cases, made.program, outcomes))
     return Row(name[:-2], description(text), len(made.image.lines), None, wrong + ([] if cases else [f"{name}: no examples"]))
 
