@@ -1,4 +1,4 @@
-"""What the helpers over parts of a record answer, in the second implementation (docs/machine.md)."""
+"""What the helpers over parts of a record answer, in the second implementation (docs/reference/machine.md)."""
 import re
 
 MOST_PLACES, MOST_DIGITS, MOST_VALUE, MOST_KEY, MOST_EMISSIONS = 4095, 18, 1048576, 4096, 16
