@@ -8,11 +8,7 @@ const BYTES_AT: i16 = -8;
 
 impl Random {
     /// In a register the number of a part, which the record may lack.
-    fn push_part_number(
-        &mut self,
-        image: &mut Vec<u8>,
-        register: u8,
-    ) -> Result<(), AllocError> {
+    fn push_part_number(&mut self, image: &mut Vec<u8>, register: u8) -> Result<(), AllocError> {
         let number = match self.below(8) {
             0 => slot(0xbf, register, self.register(), 0, 0),
             1 => slot(0xb7, register, 0, 0, self.below(40) as i32),

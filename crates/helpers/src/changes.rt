@@ -44,11 +44,7 @@ const TOO_LONG: u64 = 5;
 
 /// The bytes of a piece of a part, if all of them are there. Those of the key and the value share the record's
 /// buffer, those of a header are copied. It fails only where memory runs out.
-fn cut(
-    alloc: Global,
-    given: &RecordRef,
-    slice: &PartSlice,
-) -> Result<Option<Bytes>, AllocError>
+fn cut(alloc: Global, given: &RecordRef, slice: &PartSlice) -> Result<Option<Bytes>, AllocError>
     ensures { IfOk result (λ cut. cut ≡ cut_of (part_bytes given.now slice.now.part) slice.now.place slice.now.count) }
 {
     let whole = part_bytes(given, slice.part);
@@ -114,8 +110,12 @@ impl Emitter {
     ) -> Result<u64, AllocError>
         requires { length self.old < MAX_EMISSIONS }
         ensures answer { IfOk result (λ code. code ≡ 0) }
-        ensures emitted { OnOk result (self.new ≡ self.old ++ Made (record { out = out; key = given.now.key;
-            value = Some value; headers = given.now.headers }) ∷ []) }
+        ensures emitted { OnOk result (self.new ≡ self.old ++ Made (record {
+          out = out;
+          key = given.now.key;
+          value = Some value;
+          headers = given.now.headers;
+        }) ∷ []) }
         ensures err { OnErr result (self.new ≡ self.old) }
     {
         self.begin()?;

@@ -13,8 +13,8 @@ mod calls;
 mod emissions;
 mod headers;
 mod numbers;
+mod part_helpers;
 mod parts;
-mod record_parts;
 mod traps;
 
 /// The helper table, and how many outputs there are.

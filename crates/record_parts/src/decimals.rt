@@ -7,9 +7,9 @@ ghost use Rattle.std.specs.Str.Parse.{digits_value};
 ghost use Rattle.machine_spec.specs.Parts.{part_bytes};
 ghost use Rattle.machine_spec.specs.Numbers.{are_digits, decimal_answer};
 
-use machine_spec::Part;
 use crate::ranges::bytes_at;
 use kafka_record::RecordRef;
+use machine_spec::Part;
 
 /// The most digits of a number that is read: 64 bits hold each such number.
 pub const MAX_DIGITS: usize = 18;

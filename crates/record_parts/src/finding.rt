@@ -5,8 +5,8 @@ ghost use Rattle.machine_spec.specs.Parts.{part_bytes};
 ghost use Rattle.machine_spec.specs.Places.{find_answer};
 
 use crate::part::part_bytes;
-use machine_spec::Part;
 use kafka_record::RecordRef;
+use machine_spec::Part;
 use memchr::memmem;
 
 /// How many places a search looks at.

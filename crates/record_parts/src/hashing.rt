@@ -4,8 +4,8 @@ ghost use Rattle.std.specs.Prelude.{◌≡◌, ◌<◌, ◌≤◌, ◌^◌, leng
 ghost use Rattle.machine_spec.specs.Hashes as definitions;
 
 use crate::part::part_of;
-use machine_spec::Part;
 use kafka_record::RecordRef;
+use machine_spec::Part;
 
 /// The multiplier of murmur2.
 const MULTIPLIER: u32 = 0x5bd1_e995;

@@ -5,8 +5,8 @@ ghost use Rattle.machine_spec.specs.Parts.{part_bytes};
 ghost use Rattle.machine_spec.specs.Places as definitions;
 
 use crate::part::part_bytes;
-use machine_spec::Part;
 use kafka_record::RecordRef;
+use machine_spec::Part;
 
 /// The bytes from a place of a part on, as many as are asked for. There are none where the part lacks one of
 /// them.
