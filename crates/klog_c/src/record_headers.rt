@@ -8,7 +8,7 @@ ghost use Rattle.wire_spec.specs.RecordSpelling.{HeaderFits};
 ghost use Rattle.klog_c.specs.Headers as definitions;
 
 use crate::faults::{LENGTH, MEMORY, OK, RANGE, TEXT};
-use crate::record_parts::{is_part_fitting, part_of};
+use crate::given_parts::{is_part_fitting, part_of};
 use bytes::Bytes;
 use std::alloc::{AllocError, Global};
 use std::marker::Model;

@@ -5,10 +5,10 @@ ghost use Rattle.c_outcomes.specs.Outcomes.{found};
 ghost use Rattle.klog_c.specs.Calls as definitions;
 
 use crate::faults::{LENGTH, MEMORY, OK, RANGE};
+use crate::given_parts::{is_part_fitting, part_of};
 use crate::handle::Handle;
 use crate::object::headers_of;
 use crate::record_headers::RecordHeaders;
-use crate::record_parts::{is_part_fitting, part_of};
 use kafka_record::share_headers;
 use machine_spec::Place;
 use std::alloc::{AllocError, Global};
