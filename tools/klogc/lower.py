@@ -60,19 +60,21 @@ def lower(program: Program, rounds=ROUNDS, strict=True, slots=SLOTS) -> Lowered:
                 continue
             if image:
                 return report(lowering, image)
+            if not flat:
+                nested = lowering
     if False not in learned:
         raise refusals[0]
-    return limited(program, rounds, strict, slots)
+    return limited(program, rounds, nested)
 
 
-def limited(program, rounds, strict, slots):
-    """Lowers a program with loops of which the end is not proved."""
-    learned, caps = Learned(), {}
+def limited(program, rounds, lowering):
+    """Lowers a program with loops of which the end is not proved, where that took too many slots."""
+    caps = {}
     for _ in range(MOST_TRIES):
-        lowering, image = tried(program, Settings(caps, slots, strict, False), learned)
+        limit_longest_loops(lowering, caps, rounds)
+        lowering, image = tried(program, lowering.settings._replace(rounds=caps), lowering.learned)
         if image:
             return report(lowering, image)
-        limit_longest_loops(lowering, caps, rounds)
     raise Refused("the program has more than 16,384 slots even with few rounds of its loops", program.line(program.entry))
 
 

@@ -40,7 +40,7 @@ class Lowering(Calls):
     def __init__(self, program, settings, learned):
         super().__init__(program, settings, learned)
         self.places, self.heads, self.turns = program.order(settings.flat)
-        self.live = program.liveness()
+        self.live, self.read = program.liveness(), {}
         self.waiting: dict[Copy, State] = {}
         self.queue: list = []
         self.deepest: dict[Place, int] = {}
@@ -73,8 +73,9 @@ class Lowering(Calls):
 
     def arrive(self, place, rounds, s: State):
         """A way leads to a copy of a block, which has what is known on all ways to it."""
-        read = [register(r) if isinstance(r, int) else register(r[1], self.copies[r[0]]) for r in self.live[place]]
-        read += [name for name in s.variables if name.kind == "slot"]
+        if place not in self.read:
+            self.read[place] = [register(r) if isinstance(r, int) else register(r[1], self.copies[r[0]]) for r in self.live[place]]
+        read = self.read[place] + [name for name in s.variables if name[0] == "slot"]
         s.keep(read)
         copy = self.copy_of(place, rounds, [(name, fine_kind(s.variables[name])) for name in read if name in s.variables])
         if copy not in self.waiting and self.copies_of[place, rounds] >= MOST_COPIES:

@@ -1,5 +1,4 @@
 """What is known at one place of the code: of each variable, of the stack's bytes, and of the record's lengths."""
-import collections
 import itertools
 from typing import NamedTuple
 
@@ -102,6 +101,8 @@ class State:
         are on both ways, and of what they are negated or with a length, the new terms and the first one's constant."""
         if mine is None or theirs is None:
             return None
+        if mine == theirs:
+            return mine
         if (mine.terms, mine.c) != (theirs.terms, theirs.c):
             mine, theirs = self.current(mine), other.current(theirs)
         both = joined(mine, theirs)
@@ -406,15 +407,13 @@ class State:
         return None
 
 
-def joined_terms(*parts):
+def joined_terms(first, *parts):
     """The terms of a sum of terms."""
-    parts = [part for part in parts if part]
-    if len(parts) < 2:
-        return parts[0] if parts else ()
-    factors = collections.Counter()
-    for term, factor in itertools.chain(*parts):
-        factors[term] += factor
-    return tuple(sorted((term, factor) for term, factor in factors.items() if factor))
+    factors = dict(first or ())
+    for part in parts:
+        for term, factor in part or ():
+            factors[term] = factors.get(term, 0) + factor
+    return tuple(sorted([pair for pair in factors.items() if pair[1]]))
 
 
 def negated(v):

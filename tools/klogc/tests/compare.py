@@ -1,13 +1,14 @@
 #!/usr/bin/env python3
 """Compares random C programs with what klogc makes of them, on random records.
 
-    tools/klogc/tests/compare.py [--seed SEED] [--programs N] [--records N] [--level=-O1|-O2|-Os] [--compiler CLANG] [--option=OPTION]
+    tools/klogc/tests/compare.py [--seed SEED] [--programs N] [--records N] [--level=-O1|-O2|-Os] [--compiler CLANG] [--option=OPTION] [--log FILE]
 
 The object's code and the image run by klogc's interpreter (meaning.py), and with one record in ten the image runs on the machine of
 tools/dev too. Where the object's code does what it must not, the image may do anything but trap; a program that is refused for it
 is tried again with codes 252. The status is 1 where an outcome differs."""
 import argparse
 import collections
+import json
 import os
 import random
 import sys
@@ -151,6 +152,24 @@ def compare(compiler, seed, count, number_of_records, folder):
     return tally, wrong
 
 
+def logged(name, seed):
+    """The seed with which to go on, and the counts of those before it that a log has."""
+    tally: collections.Counter = collections.Counter()
+    if name and os.path.exists(name):
+        with open(name, encoding="utf-8") as it:
+            for line in it:
+                number, found = json.loads(line)
+                if number >= seed:
+                    seed, tally = number + 1, tally + collections.Counter(found)
+    return seed, tally
+
+
+def write_log(name, seed, found):
+    if name:
+        with open(name, "a", encoding="utf-8") as it:
+            it.write(json.dumps([seed, found]) + "\n")
+
+
 def main():
     words = argparse.ArgumentParser(description="Compares random C programs with what klogc makes of them.")
     words.add_argument("--seed", type=int, default=1)
@@ -158,17 +177,21 @@ def main():
     words.add_argument("--records", type=int, default=50)
     words.add_argument("--level", choices=LEVELS, help="the level of all programs; if not given, it goes round with the seed")
     words.add_argument("--compiler")
+    words.add_argument("--log", metavar="FILE", help="a file that gets the counts of each seed; a later call with it goes on after the last of them")
     words.add_argument("--option", action="append", default=["-ffunction-sections", "-g0"], help="one more of the compiler's options, as --option=-mcpu=v4")
-    given, tally, bad = words.parse_args(), collections.Counter(), 0
+    given = words.parse_args()
     sys.setrecursionlimit(20000)
     with tempfile.TemporaryDirectory(prefix="klogc-") as folder:
-        for seed in range(given.seed, given.seed + -(-given.programs // PROGRAMS_IN_ONE)):
+        first, tally = logged(given.log, given.seed)
+        for seed in range(first, given.seed + -(-given.programs // PROGRAMS_IN_ONE)):
             level = given.level or LEVELS[seed % len(LEVELS)]
             found, wrong = compare(Compiler(given.compiler, level, given.option), seed, PROGRAMS_IN_ONE, given.records, folder)
-            tally += found
             for k, text in wrong:
                 print(f"seed {seed}, program{k} at {level}: {text}", flush=True)
-            bad += len(wrong)
+            found["wrong"] = len(wrong)
+            tally += found
+            write_log(given.log, seed, found)
+    bad = tally.pop("wrong", 0)
     print(", ".join(f"{n} {word}" for word, n in sorted(tally.items())) + f"; {bad} wrong")
     sys.exit(int(bad > 0))
 

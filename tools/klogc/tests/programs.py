@@ -191,7 +191,11 @@ class Maker:
         r, v = self.r, self.variable()
         call = r.choice(("emit_null(2);", "c += record_partition();", "load_key(w, 0, 8);", "emit_value(3, buf, 1);"))
         at = r.randrange(24)
-        match r.randrange(5):
+        match r.randrange(7):
+            case 5:
+                return f"buf[{at}] = {self.narrow()} + {r.choice((250, 254, 509))}; emit_value(7, buf, 4); {call} if (buf[{at}] < {r.choice(SMALL)}) {v} += buf[{at}] + 1;"
+            case 6:
+                return f"row.low = {self.narrow()} + {r.choice((65530, 65535))}; emit_value(7, &row, 8); {call} if (row.low < {r.choice(SMALL)}) {v} += row.low + 1;"
             case 0:
                 return f"buf[{at}] = {self.expression(2)}; emit_value(7, buf, 4); {call} if (buf[{at}] < {r.choice(SMALL)}) {v} += buf[{at}] + 1;"
             case 1:

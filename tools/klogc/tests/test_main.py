@@ -5,6 +5,8 @@ import sys
 import tempfile
 import unittest
 
+import program_files
+
 from klogc.klog import found_klog
 
 KLOGC = os.path.join(os.path.dirname(os.path.dirname(os.path.abspath(__file__))), "klogc")
@@ -49,12 +51,18 @@ class Calls(unittest.TestCase):
         status, out, err = self.call("test", self.path())
         self.assertEqual((status, err), (0, ""))
         self.assertRegex(out, r"^keep\.c: 4 examples, all as they say; \d+ instructions, helper table 1\n$")
-        status, out, err = self.call("build", self.path(), "--lines", self.path("lines"))
+        status, out, err = self.call("build", self.path())
         self.assertEqual((status, err), (0, ""))
         self.assertRegex(out, r"^.*/keep\.bin: \d+ instructions, helper table 1\n$")
-        with open(self.path("lines"), encoding="utf-8") as it:
-            self.assertIn("keep.c:13", it.read())
+        with open(self.path("keep.bin"), "rb") as it:
+            table, image, places = program_files.read(it.read())
+        self.assertEqual(table, 1)
+        self.assertIn("keep.c:13", dict(places).values())
         self.assertEqual(self.call("run", self.path("keep.bin"), given="k | ax\nk | bx\nnull | \n"), (0, "0 k | ax\nnothing\nreject 1\n", ""))
+        self.assertEqual(self.call("build", self.path(), "--image", "-o", self.path("image"))[0], 0)
+        with open(self.path("image"), "rb") as it:
+            self.assertEqual(it.read(), image)
+        self.assertEqual(self.call("run", self.path("image"), given="k | ax\n"), (0, "0 k | ax\n", ""))
         self.assertEqual(self.call("run", self.path("keep.bin"), given="k\n"), (1, "", "line 1: no record: `k` has no `|` between the key and the value; a record is KEY | VALUE\n"))
 
     def test_wrong(self):
