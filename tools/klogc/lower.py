@@ -44,7 +44,15 @@ def table_of(code):
 
 def lower(program: Program, rounds=ROUNDS, strict=True, slots=SLOTS) -> Lowered:
     """Lowers a program. Loops are copied round by round until their end is proved; where that has no end, or takes more slots
-    than an image has, the loops with the most rounds get `rounds`, and then fewer.
+    than an image has, the loops with the most rounds get `rounds`, and then fewer. A program that is refused is tried with more copies."""
+    try:
+        return lowered(program, rounds, strict, slots, False)
+    except Refused:
+        return lowered(program, rounds, strict, slots, True)
+
+
+def lowered(program, rounds, strict, slots, fine) -> Lowered:
+    """Lowers a program, perhaps with the ways apart on which a variable is another text, or -1.
 
     Of a loop in a loop the copies are many, and few where both are one; but then less is known of where each of them is. So both
     forms are tried, with few slots first."""
@@ -53,7 +61,7 @@ def lower(program: Program, rounds=ROUNDS, strict=True, slots=SLOTS) -> Lowered:
     for most in sorted({min(FEW_SLOTS, slots), slots}):
         for flat in sorted(learned):
             try:
-                lowering, image = tried(program, Settings({}, most, strict, flat), learned[flat])
+                lowering, image = tried(program, Settings({}, most, strict, flat, fine), learned[flat])
             except Refused as refusal:
                 refusals.append(refusal)
                 del learned[flat]

@@ -77,8 +77,9 @@ class Lowering(Calls):
             self.read[place] = [register(r) if isinstance(r, int) else register(r[1], self.copies[r[0]]) for r in self.live[place]]
         read = self.read[place] + [name for name in s.variables if name[0] == "slot"]
         s.keep(read)
-        copy = self.copy_of(place, rounds, [(name, fine_kind(s.variables[name])) for name in read if name in s.variables])
-        if copy not in self.waiting and self.copies_of[place, rounds] >= MOST_COPIES:
+        kind_of = fine_kind if self.settings.fine else kind
+        copy = self.copy_of(place, rounds, [(name, kind_of(s.variables[name])) for name in read if name in s.variables])
+        if self.settings.fine and copy not in self.waiting and self.copies_of[place, rounds] >= MOST_COPIES:
             copy = self.copy_of(place, rounds, [(name, kind(s.variables[name])) for name in read if name in s.variables])
         if copy in self.waiting:
             self.waiting[copy] = self.waiting[copy].join(s)

@@ -18,11 +18,13 @@ class Ended(Exception):
 
 class Settings(NamedTuple):
     """How many rounds of which loops are copied, by their heads, if not all; how many slots there may be; whether a program is
-    refused that may read outside its bytes, or has a test for it; and whether loops are one with those in them (Program.order)."""
+    refused that may read outside its bytes, or has a test for it; whether loops are one with those in them (Program.order); and whether
+    ways are apart on which a variable is another text, or -1."""
     rounds: dict
     slots: int
     strict: bool
     flat: bool
+    fine: bool
 
 
 @dataclasses.dataclass
