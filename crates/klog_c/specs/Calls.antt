@@ -7,9 +7,10 @@ use Rattle.wire_spec.specs.declared.limits.TheConstants.{MAX_KEY, MAX_VALUE, TIM
 use Rattle.machine_spec.specs.declared.{outcome.Outcome.Outcome, outcome.Place.Place, helper.Table.Table}
 use Rattle.machine_spec.specs.{Image.Program, Machine.Input, Meaning.Means}
 use Rattle.program_file.specs.declared.{fault.FileFault.FileFault, choice.GivenProgram.GivenProgram}
-use Rattle.program_file.specs.Choice.{given_program, program_in}
+use Rattle.program_file.specs.Choice.{given_program, program_in as program_given}
 use Rattle.verifier_spec.specs.{declared.fault.LoadFault.LoadFault, Loading.IsAccepted, Loading.IsRefusedWith}
-use Rattle.klog_c.specs.{Numbers.fault_number, Numbers.fault_place, Numbers.file_number, RecordParts.part_of, RecordParts.is_part_fitting}
+use Rattle.klog_c.specs.{Numbers.fault_number, Numbers.fault_place, Numbers.file_number, RecordParts.part_of}
+use Rattle.klog_c.specs.RecordParts.{is_part_fitting}
 use Rattle.klog_c.specs.{Headers.header_of, Headers.header_fault}
 use Rattle.klog_c.specs.declared.faults.TheConstants.{MEMORY, KIND, LENGTH}
 use Rattle.c_outcomes.specs.declared.numbers.TheConstants.{RANGE}
@@ -116,7 +117,7 @@ LoadsProgram program before after place_before place number =
 -- The same of what bytes give. A program file that is refused has its fault, and MEMORY where memory ran out.
 abbrev pub LoadsGiven : Result GivenProgram FileFault → Option Object → Option Object → ℕ → ℕ → ℕ → Type 0
 LoadsGiven (Ok given) before after place_before place number =
-    LoadsProgram (program_in given) before after place_before place number
+    LoadsProgram (program_given given) before after place_before place number
 LoadsGiven (Err fault) before after place_before place number =
     (Fails (file_number fault) before after number ⊎ Fails MEMORY before after number) × (place ≡ place_before)
 
