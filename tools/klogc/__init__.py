@@ -3,7 +3,7 @@
 The parts, each with one purpose:
     compiler    finds clang and runs it; what BPF lacks becomes calls of runtime.h
     program     the object's code as blocks, own functions followed into each call, and the loops among the blocks
-    values      what is known of a number;  state  what is known at one place of the code
+    values      what is known of a number;  bounds  of sums of numbers and the record's lengths;  state  at one place of the code
     lowering    runs the blocks with what is known, a copy of a loop's blocks for each round, and writes code
                 (writer, numbers, jumps, memory, calls are its layers; code has the instructions that it writes)
     registers   gives the variables of that code registers or places on the stack

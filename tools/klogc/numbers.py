@@ -166,7 +166,7 @@ def related(s: State, name, width, operands, known):
     elif name == "mod" and w.lo > 0:
         s.learn(known, w, True)
     divisor = w.lo + (name == "and") if w.is_const() and name in ("and", "mod") else 0
-    if v.length_region() and known.terms is not None and known.c == 0 and divisor and (name == "mod" or divisor & w.lo == 0):
+    if v.length_region() and v.lo >= 0 and known.terms is not None and known.c == 0 and divisor and (name == "mod" or divisor & w.lo == 0):
         s.remainders[known.terms] = v.length_region(), small(v.c), divisor
     return known
 

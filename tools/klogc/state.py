@@ -1,21 +1,14 @@
 """What is known at one place of the code: of each variable, of the stack's bytes, and of the record's lengths."""
 import itertools
-from typing import NamedTuple
 
+from .bounds import Bounds, Held, joined_terms, negated, turned
 from .code import Variable
-from .values import LENGTH_TERMS, LIMIT, M64, MIXED, MOST_TERMS, REGION_OF, Value, added, const, joined, number, small, summed, window
+from .values import LENGTH_TERMS, LIMIT, M64, MIXED, Value, added, joined, number, small, summed
 
-FAR = 1 << 62
 LENGTHS = {term for terms in LENGTH_TERMS.values() for term, _ in terms}
 
 
-class Held(NamedTuple):
-    """What a store left on the stack: how many bytes, and what is known of them, if anything is."""
-    size: int
-    value: Value | None
-
-
-class State:
+class State(Bounds):
     """`variables` have what is known of each; `memory` what stores left, by the stack's byte.
     `words` are the words of the stack in which an address may be, with its region, or None for a number.
     `least` and `most` bound the record's lengths; `sure` is the least length that the verifier knows too.
@@ -122,12 +115,6 @@ class State:
             s.keep_fact(turned(both.terms), region, (self.slack(negated(mine), region), other.slack(negated(theirs), region)), 0)
         return both
 
-    def keep_fact(self, terms, region, slacks, c):
-        """What may be added on both ways to terms and a constant, which are not negative then, is a fact of the terms."""
-        if None not in slacks and min(slacks) > -LIMIT[region]:
-            self.facts[terms, region] = min(slacks) + c
-            self.floors[terms] = max(-c, self.floors.get(terms, -c))
-
     def _join_parts(self, s, other):
         """Of two numbers of which one is not the same on both ways, as the place and the length of a part of the record: how far their
         sum is from the record's end."""
@@ -154,230 +141,9 @@ class State:
                     terms, least = summed(p, q, -1), least - small(p.c) + small(q.c)
                     s.floors[terms] = max(least, s.floors.get(terms, least))
 
-    def least_difference(self, v, w):
-        """The least that v - w is known to be, of two that are not negative."""
-        least = self.current(v).lo - self.current(w).hi
-        terms, c = summed(v, w, -1), small(v.c) - small(w.c)
-        if not terms:
-            return max(least, c)
-        if terms in self.floors:
-            least = max(least, self.floors[terms] + c)
-        region = v.length_region()
-        slack = self.slack(w, region) if region else None
-        return least if slack is None else max(least, slack + small(v.c))
-
     def _word(self, other, at):
         mine, theirs = self.words.get(at, other.words.get(at)), other.words.get(at, self.words.get(at))
         return mine if mine == theirs else MIXED
-
-    # ---- bounds
-
-    def current(self, v):
-        """A number that is a length but for a constant, with the bounds that the length has here."""
-        region = REGION_OF.get(v.terms)
-        if region is None or v.is_const():
-            return v
-        lo, hi = window(self.least[region] + small(v.c), self.most[region] + small(v.c))
-        return const(lo, v.region) if lo == hi else number(lo, hi, None, v.terms, v.c, v.region)
-
-    def learn(self, v, w, less):
-        """v is at most w, or below it. Where a sum of w and others is known to be at most a length, that is a fact of the sum of v and
-        these: of v itself, where w is at most a length."""
-        v, w = self.settled(v), self.settled(w)
-        if not (is_whole(v) and is_whole(w)) or w.terms is None:
-            return
-        if v.terms is not None and max(v.hi, w.hi) <= LIMIT["value"] and (apart := summed(w, v, -1)):
-            least = small(v.c) - small(w.c) + less
-            self.floors[apart] = max(least, self.floors.get(apart, least))
-        known = [(terms, region, 0) for region, terms in LENGTH_TERMS.items()]
-        known += [(terms, region, k) for (terms, region), k in self.facts.items() if w.terms[0] in terms or w.terms[-1] in terms]
-        for terms, region, k in known:
-            if (terms, region) != (v.terms, region):
-                self._learn_sum(v, w, less, (terms, region, k))
-
-    def _learn_sum(self, v, w, less, known):
-        """Terms and k are at most a region's length together, and v at most w, or below it."""
-        terms, region, k = known
-        left = joined_terms(v.terms or (), terms, turned(w.terms))
-        if not left:
-            self.least[region] = max(self.least[region], k + small(v.c) - small(w.c) + less)
-            return
-        if len(left) > MOST_TERMS or left != v.terms and any(factor < 0 or term == LENGTH_TERMS[region][0][0] for term, factor in left):
-            return
-        k += small(v.c) - small(w.c) + less
-        self.facts[left, region] = max(k, self.facts.get((left, region), k))
-        if left == v.terms:
-            self.floors[left] = max(v.lo - small(v.c), self.floors.get(left, -FAR))
-            self._raise_least(v, v.lo)
-
-    def difference(self, known, v, w):
-        """v - w, where v is a length but for a constant and w is known to be at most that."""
-        region, w = v.length_region(), self.settled(w)
-        slack = self.slack(w, region) if region and known.terms is not None and abs(small(v.c)) < FAR else None
-        if slack is None or slack + small(v.c) < 0:
-            return known
-        lo, hi = slack + small(v.c), self.most[region] + small(v.c) - w.lo
-        if lo >= hi:
-            return known
-        less = small(known.c) + w.lo - small(v.c)
-        self.facts[known.terms, region] = max(less, self.facts.get((known.terms, region), less))
-        self.floors[known.terms] = max(lo - small(known.c), self.floors.get(known.terms, -FAR))
-        return number(lo, hi, None, known.terms, known.c)
-
-    def _raise_least(self, v, lo):
-        """A number is at least lo, and so are the lengths that it is known to be within."""
-        if lo >= 0 and v.lo >= 0 and v.hi >> 63 == 0 and abs(small(v.c)) < FAR:
-            for region in LIMIT:
-                fact = self.facts.get((v.terms, region))
-                if fact is not None:
-                    self.least[region] = max(self.least[region], lo - small(v.c) + fact)
-            if v.terms in self.scales:
-                region, factor = self.scales[v.terms]
-                self.least[region] = max(self.least[region], (lo - small(v.c)) * factor)
-
-    def gap(self, v, w):
-        """The most that is known to be possible to add to v so that it is still at most w, a length but for a constant; or None."""
-        region = w.length_region()
-        slack = self.slack(v, region) if region and not w.is_const() and w.lo >= 0 and abs(small(w.c)) < FAR else None
-        return None if slack is None else slack + small(w.c)
-
-    def settled(self, v):
-        """A number with the bounds that its terms are known to have."""
-        if v.terms in REGION_OF:
-            return self.current(v)
-        if v.lo >= 0 and v.hi >> 63 == 0 or v.terms not in self.floors or abs(small(v.c)) >= FAR:
-            return v
-        lo, hi = self.floors[v.terms] + small(v.c), min(v.hi, (1 << 63) - 1)
-        if turned(v.terms) in self.floors:
-            hi = min(hi, small(v.c) - self.floors[turned(v.terms)])
-        return v._replace(lo=lo, hi=max(lo, hi)) if lo >= 0 else v
-
-    def slack(self, v, region):
-        """The most that is known to be possible to add to v, which is not negative, so that it is still at most the region's
-        length; or None."""
-        v = self.settled(v)
-        if v.lo < 0 or v.hi >> 63:
-            return None
-        known = [self.least[region] - v.hi]
-        if v.terms is not None and abs(small(v.c)) < FAR:
-            if v.terms == LENGTH_TERMS[region]:
-                known.append(-small(v.c))
-            if (v.terms, region) in self.facts:
-                known.append(self.facts[v.terms, region] - small(v.c))
-        return max(known)
-
-    def is_inside(self, v, more, region):
-        """Whether v and `more` are known to be at most the region's length together."""
-        slack = self.slack(v, region)
-        if slack is None or self.settled(v).lo + more < 0:
-            return False
-        return more <= slack or more <= self.whole_slack(v, region)
-
-    def whole_slack(self, v, region):
-        """As slack, by all sums that v is a part of and that are known to be at most the length."""
-        slack = self.slack(v, region)
-        if slack is None or v.terms is None:
-            return slack
-        for (terms, which), k in self.facts.items():
-            if which != region:
-                continue
-            rest = joined_terms(terms, turned(v.terms))
-            known = self.whole_range(rest) if rest and len(rest) <= len(terms) else None
-            if known is not None:
-                slack = max(slack, k + known[0] - small(v.c))
-        return slack
-
-    def narrow(self, v, lo, hi):
-        """Learns that v is from lo to hi, and so of all that differ from it by a constant. False where that can't be."""
-        if lo > hi:
-            return False
-        if v.terms is None:
-            return True
-        region = v.length_region()
-        if region is not None:
-            return self._narrow_length(region, small(v.c), lo, hi)
-        if lo == hi and v.c == 0 and v.terms in self.remainders:
-            self.divide_length(*self.remainders[v.terms], lo)
-        self._raise_least(v, lo)
-        self._narrow_difference(v, lo, hi)
-        self._narrow_rest(v, lo)
-        for name, x in self.variables.items():
-            if x.terms == v.terms:
-                self.variables[name] = narrowed(x, v, lo, hi)
-        for at, (size, x) in self.memory.items():
-            if x is not None and x.terms == v.terms:
-                self.memory[at] = Held(size, narrowed(x, v, lo, hi))
-        return self._settle_lengths()
-
-    def divide_length(self, region, c, divisor, remainder):
-        """A length and a constant have a remainder by a divisor."""
-        if divisor > self.grid[region][0]:
-            self.grid[region] = divisor, (remainder - c) % divisor
-
-    def _settle_lengths(self):
-        """Takes the bounds of the lengths to what their remainders allow. False where they have none."""
-        for region, (divisor, remainder) in self.grid.items():
-            self.least[region] += (remainder - self.least[region]) % divisor
-            self.most[region] -= (self.most[region] - remainder) % divisor
-        return all(self.least[r] <= self.most[r] for r in LIMIT)
-
-    def _narrow_difference(self, v, lo, hi):
-        """What it says of a number and of a length that their difference is from lo to hi."""
-        for region, ((length, _),) in LENGTH_TERMS.items():
-            sign = dict(v.terms).get(length)
-            if sign not in (1, -1) or len(v.terms) == 1:
-                continue
-            other = tuple((term, -sign * factor) for term, factor in v.terms if term != length)
-            known = self.whole_range(other)
-            if known is None or abs(small(v.c)) >= FAR:
-                continue
-            # The length less the other number, as a whole number.
-            least, most = self.least[region] - known[1], self.most[region] - known[0]
-            ends = [sorted((sign * (end - small(v.c) + k) for end in (lo, hi))) for k in (0, 1 << 64, -1 << 64)]
-            ends = [(max(low, least), min(high, most)) for low, high in ends if low <= most and high >= least]
-            if not ends:
-                continue
-            low, high = min(low for low, _ in ends), max(high for _, high in ends)
-            self.facts[other, region] = max(low, self.facts.get((other, region), low))
-            self.floors[other] = max(known[0], self.floors.get(other, known[0]))
-            self.least[region], self.most[region] = max(self.least[region], low + known[0]), min(self.most[region], high + known[1])
-
-    def _narrow_rest(self, v, lo):
-        """A number is at least lo: where a sum that it is part of is at most a length, the rest of the sum is that much less."""
-        if not is_whole(v) or lo < 0 or lo <= v.lo:
-            return
-        parts = {term for term, factor in v.terms if factor > 0}
-        for (terms, region), k in list(self.facts.items()):
-            if terms == v.terms or not any(term in parts for term, factor in terms if factor > 0):
-                continue
-            rest = joined_terms(terms, turned(v.terms))
-            known = self.whole_range(rest) if 0 < len(rest) < len(terms) + len(v.terms) else None
-            if known is None:
-                continue
-            k += lo - small(v.c)
-            self.facts[rest, region] = max(k, self.facts.get((rest, region), k))
-            self.floors[rest] = max(known[0], self.floors.get(rest, known[0]))
-            self.least[region] = max(self.least[region], known[0] + k)
-
-    def whole_range(self, terms):
-        """Between which whole numbers a sum of terms is known to be, if it is."""
-        numbers = itertools.chain(self.variables.values(), (held.value for held in self.memory.values() if held.value is not None))
-        for v in numbers:
-            if v.terms == terms and v.hi >> 40 == 0 and is_whole(v := self.settled(v)):
-                return v.lo - small(v.c), v.hi - small(v.c)
-        if terms in self.floors:
-            ends = [self.most[region] - self.facts[terms, region] for region in LIMIT if (terms, region) in self.facts]
-            if ends:
-                return self.floors[terms], min(ends)
-        return None
-
-    def _narrow_length(self, region, c, lo, hi):
-        least, most = self.least[region], self.most[region]
-        ends = [(max(lo - c + k, least), min(hi - c + k, most)) for k in (0, 1 << 64, -1 << 64)]
-        ends = [(low, high) for low, high in ends if low <= high]
-        if ends:
-            self.least[region], self.most[region] = min(low for low, _ in ends), max(high for _, high in ends)
-        return bool(ends) and self._settle_lengths()
 
     # ---- the stack
 
@@ -405,39 +171,3 @@ class State:
                     return held.value.lo >> 8 * (place - at) & 255
                 return None
         return None
-
-
-def joined_terms(first, *parts):
-    """The terms of a sum of terms."""
-    factors = dict(first or ())
-    for part in parts:
-        for term, factor in part or ():
-            factors[term] = factors.get(term, 0) + factor
-    return tuple(sorted([pair for pair in factors.items() if pair[1]]))
-
-
-def negated(v):
-    return added(const(0), v, -1)
-
-
-def turned(terms):
-    """The terms of the negated number."""
-    return None if terms is None else tuple((term, -factor) for term, factor in terms)
-
-
-def is_whole(v):
-    """Whether a number and its terms' sum are the same modulo 2^64 and as whole numbers."""
-    return v.lo >= 0 and v.hi >> 63 == 0 and abs(small(v.c)) < FAR
-
-
-def narrowed(x, v, lo, hi):
-    """x, which differs from v by a constant, where v is from lo to hi."""
-    low, high = lo + x.c - v.c, hi + x.c - v.c
-    both = [(max(low + k, x.lo), min(high + k, x.hi)) for k in (0, 1 << 64, -1 << 64) if low + k <= x.hi and x.lo <= high + k]
-    if not both:
-        return x
-    a, b = min(a for a, _ in both), max(b for _, b in both)
-    if a == b:
-        # It keeps its terms, which others have.
-        return const(a, x.region)._replace(terms=x.terms, c=x.c) if a >= 0 else const(a, x.region)
-    return number(a, b, x.mask, x.terms, x.c, x.region)

@@ -14,7 +14,7 @@ from typing import Callable, NamedTuple
 if __name__ == "__main__":
     sys.path[0] = os.path.dirname(os.path.dirname(os.path.dirname(os.path.realpath(__file__))))
 
-from klogc import calls, code, jumps, layout, memory, numbers, program, registers, state, values
+from klogc import bounds, calls, code, jumps, layout, memory, numbers, program, registers, state, values
 from klogc.compiler import Compiler
 from klogc.program import Refused
 from klogc.tests.compare import PROGRAMS_IN_ONE, compared
@@ -48,7 +48,7 @@ FAULTS = [
     Fault("a test's end is one off", jumps, "halves", one_more),
     Fault("signed tests are unsigned", jumps.Comparison, "interval", lambda old: lambda self, v: old(self._replace(name=self.plain()), v)),
     Fault("all tests have 64 bits", jumps.Comparison, "simpler", lambda old: lambda self: self._replace(width=64)),
-    Fault("what differs is moved the wrong way", state, "narrowed", lambda old: lambda x, v, lo, hi: old(x, v, lo + 2 * (v.c - x.c) % 7, hi)),
+    Fault("what differs is moved the wrong way", bounds, "narrowed", lambda old: lambda x, v, lo, hi: old(x, v, lo + 2 * (v.c - x.c) % 7, hi)),
     Fault("stores leave what was known", state.State, "forget", lambda old: lambda self, lo, hi: None),
     Fault("a store of few bytes keeps all", memory, "cut", lambda old: lambda w, size: w),
     Fault("a known byte is the first of its word", state.State, "known_byte", lambda old: lambda self, place: old(self, place & -2)),
@@ -65,8 +65,8 @@ FAULTS = [
     Fault("constants are zeros", layout, "filled", lambda old: lambda data: old(dict.fromkeys(data, 0))),
     Fault("functions share their stack", program.Program, "tops", lambda old: lambda self: (dict.fromkeys(old(self)[0], old(self)[1]), old(self)[1])),
     Fault("a part is copied of the key", calls, "LOADS", lambda old: {1: "key", 2: "value"}),
-    Fault("an order is turned", state.State, "least_difference", lambda old: lambda self, v, w: old(self, w, v)),
-    Fault("a length is odd that is even", state.State, "divide_length", lambda old: lambda self, region, c, divisor, remainder: old(self, region, c, divisor, remainder + 1)),
+    Fault("an order is turned", bounds.Bounds, "least_difference", lambda old: lambda self, v, w: old(self, w, v)),
+    Fault("a length is odd that is even", bounds.Bounds, "divide_length", lambda old: lambda self, region, c, divisor, remainder: old(self, region, c, divisor, remainder + 1)),
     Fault("a test is left out where it is read", layout, "view", lambda old: lambda data, table: old(data, table)._replace(never=some_test(data))),
 ]
 
