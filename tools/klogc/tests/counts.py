@@ -1,10 +1,11 @@
 #!/usr/bin/env python3
 """Counts of how many C programs are accepted by compiler, level and version of the machine: rows of a table in Markdown.
 
-    tools/klogc/tests/counts.py [FOLDER ..]
+    tools/klogc/tests/counts.py [--compilers 14,16,19] [FOLDER ..]
 
 Takes each clang that is there, from the oldest on. A program counts as accepted where klogc makes an image of it and the verifier in
 Python accepts that."""
+import argparse
 import glob
 import os
 import sys
@@ -12,17 +13,16 @@ import sys
 if __name__ == "__main__":
     sys.path[0] = os.path.dirname(os.path.dirname(os.path.dirname(os.path.realpath(__file__))))
 
-from klogc.compiler import NEWEST, Compiler, version
+from klogc.compiler import NEWEST, OLDEST, Compiler, version
 from klogc.lower import lower
 from klogc.program import Program, Refused
 
 import second_machine
 
 TOP = os.path.dirname(os.path.dirname(os.path.dirname(os.path.dirname(os.path.realpath(__file__)))))
-FOLDERS = [os.path.join(TOP, "examples", "c", name) for name in ("transforms", "tried", "natural")]
-FIRST = 13
+FOLDERS = [os.path.join(TOP, "examples", "c", name) for name in ("transforms", "tried", "natural", "unseen", "parts")]
 # A level and a version of the machine; those from clang 18 on have v4.
-SETTINGS = (("-O2", "v3"), ("-O1", "v3"), ("-Os", "v3"), ("-O2", "v1"), ("-O2", "v2"), ("-O2", "v4"))
+SETTINGS = [(level, machine) for level in ("-O2", "-O1", "-Os") for machine in ("v3", "v1", "v2", "v4")]
 WITH_V4 = 18
 
 
@@ -36,8 +36,12 @@ def is_accepted(compiler, source):
 
 def main():
     sys.setrecursionlimit(20000)
-    folders = sys.argv[1:] or FOLDERS
-    clangs = [f"clang-{n}" for n in range(FIRST, NEWEST) if version(f"clang-{n}")]
+    words = argparse.ArgumentParser(description="Counts how many C programs are accepted by compiler, level and version of the machine.")
+    words.add_argument("--compilers", default=",".join(map(str, range(OLDEST, NEWEST + 1))), help="the versions of clang, those that are there")
+    words.add_argument("folders", nargs="*", metavar="FOLDER")
+    given = words.parse_args()
+    folders = given.folders or FOLDERS
+    clangs = [name for name in (f"clang-{n}" for n in given.compilers.split(",")) if version(name)]
     print("| | " + " | ".join(os.path.basename(folder) for folder in folders) + " |\n|---|" + "---|" * len(folders))
     for level, machine in SETTINGS:
         for clang in clangs:
