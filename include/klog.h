@@ -57,8 +57,8 @@ HELPER(7, record_offset, void);
 HELPER(8, record_timestamp, void);
 HELPER(9, record_partition, void);
 
-/* The helpers of headers are those of table two alone: a program that calls one is loaded by `load NAME FILE 2`, as klogc says
- * when it builds it. */
+/* The helpers of headers are those of table two; klog_parts.h has those of table three, which cut, change and search values of any
+ * length. The program file that klogc writes says which table a program needs. */
 
 /* How many headers the record has, 0 to 16. */
 HELPER(10, header_count, void);

@@ -193,9 +193,13 @@ class Maker:
         at = r.randrange(24)
         match r.randrange(7):
             case 5:
-                return f"buf[{at}] = {self.narrow()} + {r.choice((250, 254, 509))}; emit_value(7, buf, 4); {call} if (buf[{at}] < {r.choice(SMALL)}) {v} += buf[{at}] + 1;"
+                n = self.index("n")
+                return (f"{{ u64 {n} = ({self.variable()} & 15) + {r.choice((250, 254, 509))}; {v} ^= {n}; buf[{at}] = {n}; emit_value(7, buf, 4); {call}"
+                        f" if (buf[{at}] < {r.choice(SMALL)}) {v} += buf[{at}] + 1; }}")
             case 6:
-                return f"row.low = {self.narrow()} + {r.choice((65530, 65535))}; emit_value(7, &row, 8); {call} if (row.low < {r.choice(SMALL)}) {v} += row.low + 1;"
+                n = self.index("n")
+                return (f"{{ u64 {n} = ({self.variable()} & 31) + {r.choice((65530, 65535))}; {v} ^= {n}; row.low = {n}; emit_value(7, &row, 8); {call}"
+                        f" if (row.low < {r.choice(SMALL)}) {v} += row.low + 1; }}")
             case 0:
                 return f"buf[{at}] = {self.expression(2)}; emit_value(7, buf, 4); {call} if (buf[{at}] < {r.choice(SMALL)}) {v} += buf[{at}] + 1;"
             case 1:
