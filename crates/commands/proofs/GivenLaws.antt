@@ -26,36 +26,42 @@ read_as files name bytes named (Err (ungiven.File fault)) are is = (bytes, are, 
 read_as files name bytes named (Err (ungiven.Unread cause)) are is = tt
 
 -- what a file of known bytes gives
-known_gives : {files : List ℕ → Option (List ℕ)} {name : List ℕ} {named : Option Table}
-    {given : Result GivenProgram FileFault} (known : List ℕ) → Gives files (File name) named given →
+known_gives : (files : List ℕ → Option (List ℕ)) (name : List ℕ) (named : Option Table)
+    (given : Result GivenProgram FileFault) (known : List ℕ) → Gives files (File name) named given →
     files name ≡ Some known → given_program named (first_bytes known) ≡ given
-known_gives known (bytes, are, is) there = rw (are known there) at is
+known_gives files name named given known (bytes, are, is) there = rw (are known there) at is
 
 -- ---- calls that print
 
-module _ {F I O E : Type 0} {bytes : F → List ℕ → Option (List ℕ)} {contents : O → Option (List ℕ)}
-    {old new : Host F I O E} {name : List ℕ} {named : Option Table} {status : Status}
+module _ {F I O E : Type 0} (bytes : F → List ℕ → Option (List ℕ)) (contents : O → Option (List ℕ))
+    (old new : Host F I O E) (name : List ℕ) (named : Option Table) (status : Status)
     (Does : GivenProgram → Status → Option (List ℕ) → Option (List ℕ) → Type 0) (kept : KeepsInputs bytes old new) where
   pub prints_given : (given : GivenProgram) → Gives (bytes old.files) (File name) named (Ok given) →
       Does given status (contents old.stdout) (contents new.stdout) →
       PrintsOfFile bytes contents old new name (λ known. OfGiven (given_program named (first_bytes known)) Does status)
-  prints_given given gives done =
-      record { kept = kept; printed = λ known there. inr (rw (known_gives known gives there) done) }
+  prints_given given gives done = record {
+    kept = kept;
+    printed = λ known there. inr (rw (known_gives (bytes old.files) name named (Ok given) known gives there) done);
+  }
 
   pub prints_none : (why : Ungiven) → IsGiven (bytes old.files) name named (Err why) → IsTold why status →
       contents new.stdout ≡ contents old.stdout →
       PrintsOfFile bytes contents old new name (λ known. OfGiven (given_program named (first_bytes known)) Does status)
-  prints_none (ungiven.File fault) gives (inl refused) same =
-      record { kept = kept; printed = λ known there. inr (rw (known_gives known gives there) (refused, same)) }
+  prints_none (ungiven.File fault) gives (inl refused) same = record {
+    kept = kept;
+    printed = λ known there.
+        inr (rw (known_gives (bytes old.files) name named (Err fault) known gives there) (refused, same));
+  }
   prints_none (ungiven.File fault) gives (inr failed) same = record { kept = kept; printed = λ known there. inl failed }
   prints_none (ungiven.Unread cause) gives failed same = record { kept = kept; printed = λ known there. inl failed }
 
 -- ---- a transform
 
-pub loads_given : {files : List ℕ → Option (List ℕ)} {name : List ℕ} {named : Option Table} (given : GivenProgram)
+pub loads_given : (files : List ℕ → Option (List ℕ)) (name : List ℕ) (named : Option Table) (given : GivenProgram)
     (result : Result Program Halt) → Gives files (File name) named (Ok given) → IsLoaded (program_in given) result →
     (known : List ℕ) → files name ≡ Some known → LoadsGiven (given_program named (first_bytes known)) result
-loads_given given result gives loaded known there = rw (known_gives known gives there) loaded
+loads_given files name named given result gives loaded known there =
+    rw (known_gives files name named (Ok given) known gives there) loaded
 
 unread_file : (said : Result GivenProgram FileFault) → LoadsGiven said (Err (halt.File 0))
 unread_file (Ok given) = tt
@@ -65,13 +71,14 @@ unread_memory : (said : Result GivenProgram FileFault) → LoadsGiven said (Err 
 unread_memory (Ok given) = tt
 unread_memory (Err fault) = tt
 
-pub loads_none : {files : List ℕ → Option (List ℕ)} {name : List ℕ} {named : Option Table} (why : Ungiven)
+pub loads_none : (files : List ℕ → Option (List ℕ)) (name : List ℕ) (named : Option Table) (why : Ungiven)
     (halted : Halt) → IsGiven files name named (Err why) → IsUngiven why halted → (known : List ℕ) →
     files name ≡ Some known → LoadsGiven (given_program named (first_bytes known)) (Err halted)
-loads_none (ungiven.File fault) halted gives same known there = rw (same, known_gives known gives there) refl
-loads_none {named = named} (ungiven.Unread unread.File) halted gives same known there =
+loads_none files name named (ungiven.File fault) halted gives same known there =
+    rw (same, known_gives files name named (Err fault) known gives there) refl
+loads_none files name named (ungiven.Unread unread.File) halted gives same known there =
     rw same (unread_file (given_program named (first_bytes known)))
-loads_none {named = named} (ungiven.Unread unread.Memory) halted gives same known there =
+loads_none files name named (ungiven.Unread unread.Memory) halted gives same known there =
     rw same (unread_memory (given_program named (first_bytes known)))
 
 -- ---- a script's load

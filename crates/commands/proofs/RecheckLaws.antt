@@ -1,6 +1,6 @@
 -- What is told of the programs of a list, line by line.
 use Rattle.std.proofs.Common.{◌≡◌, ◌⊎◌, ℕ, ◌+◌, ◌<◌, List, [], ◌∷◌, ◌++◌, length, take, drop, Result, Ok, Err, Option}
-use Rattle.std.proofs.Common.{Bool, true, false, ◌||◌, refl, sym, ap, subst, inl, inr, ◌∙◌, append-nil, arith}
+use Rattle.std.proofs.Common.{Some, None, Bool, true, false, ◌||◌, refl, sym, ap, subst, inl, inr, ◌∙◌, append-nil, arith}
 use Rattle.std.proofs.{Math.Path.fun_ext, lemmas.List.Folds.list_any-append, lemmas.Slice.Zip.all_zipped_more}
 use Rattle.std.proofs.{lemmas.Slice.Zip.AllZip-long, KnownBytes.Appends-nil, KnownBytes.Appends-trans}
 use Rattle.std.proofs.Math.Bool.{or-false}
@@ -32,7 +32,7 @@ accepted_told file text given before after accepted is printed =
 
 pub refused_told : (file : List ℕ) (given : GivenProgram) (before : Option (List ℕ)) (fault : LoadFault) →
     IsRefusedWith (program_in given) fault → ProgramTells file (Ok given) before before (Ok true)
-refused_told file given before fault is = (Err (inr fault), is, refl, Appends-nil before)
+refused_told file given before fault is = (Err (Some fault), is, refl, Appends-nil before)
 
 -- ---- one line
 
@@ -60,7 +60,7 @@ pub file_refused : (files : List ℕ → Option (List ℕ)) (line file : List �
     IsGiven files file named (Err why) → RefusesFile file why result → LineTells files line before before result
 file_refused files line file named (ungiven.File fault) before (Ok refused) names gives same =
     line_told files line file named (Err fault) before before (Ok refused) names gives
-    (Err (inl fault), refl, same, Appends-nil before)
+    (Err None, tt, same, Appends-nil before)
 file_refused files line file named (ungiven.File fault) before (Err reason) names gives is =
     stops line before before reason is
 file_refused files line file named (ungiven.Unread cause) before (Err reason) names gives (inl memory) =

@@ -40,21 +40,18 @@ pub record NamesProgram (line file : List ℕ) (named : Option Table) : Type 0 w
 
 -- ---- what is told of a program
 
--- why a program is refused: as a program file, or by its image
-abbrev pub Why : Type 0
-Why = FileFault ⊎ LoadFault
-
--- a program is accepted, and its code has so many instructions, or it is refused with its fault
-abbrev pub IsVerdict : Result GivenProgram FileFault → Result ℕ Why → Type 0
+-- A program is accepted, and its code has so many instructions, or it is refused with its fault. A program file that is
+-- refused as such has no program, and so no fault of one.
+abbrev pub IsVerdict : Result GivenProgram FileFault → Result ℕ (Option LoadFault) → Type 0
 IsVerdict (Ok given) (Ok count) = (accepted : IsAccepted (program_in given)) × (length accepted.code ≡ count)
-IsVerdict (Ok given) (Err (inr fault)) = IsRefusedWith (program_in given) fault
-IsVerdict (Ok given) (Err (inl fault)) = ⊥
-IsVerdict (Err reported) (Err (inl fault)) = fault ≡ reported
-IsVerdict (Err reported) (Err (inr fault)) = ⊥
-IsVerdict (Err reported) (Ok count) = ⊥
+IsVerdict (Ok given) (Err (Some fault)) = IsRefusedWith (program_in given) fault
+IsVerdict (Ok given) (Err None) = ⊥
+IsVerdict (Err fault) (Err None) = ⊤
+IsVerdict (Err fault) (Err (Some other)) = ⊥
+IsVerdict (Err fault) (Ok count) = ⊥
 
 -- what standard output gets of a verdict: `FILE accepted N instructions`; a fault goes to standard error
-abbrev pub verdict_line : List ℕ → Result ℕ Why → List ℕ
+abbrev pub verdict_line : List ℕ → Result ℕ (Option LoadFault) → List ℕ
 verdict_line file (Ok count) = file ++ (32 ∷ accepted_line count)
 verdict_line file (Err fault) = []
 
@@ -64,7 +61,7 @@ pub record Told : Type 0 where
   pub file : List ℕ
   pub named : Option Table
   pub bytes : List ℕ
-  pub verdict : Result ℕ Why
+  pub verdict : Result ℕ (Option LoadFault)
 
 -- this was told of a line, by what is known of files
 pub record IsTold (files : List ℕ → Option (List ℕ)) (line : List ℕ) (told : Told) : Type 0 where
@@ -76,7 +73,7 @@ pub record IsTold (files : List ℕ → Option (List ℕ)) (line : List ℕ) (to
 -- said of what was printed where standard output or memory failed.
 abbrev pub ProgramTells : List ℕ → Result GivenProgram FileFault → Option (List ℕ) → Option (List ℕ) →
     Result Bool Stop → Type 0
-ProgramTells file given before after (Ok refused) = (verdict : Result ℕ Why) × IsVerdict given verdict
+ProgramTells file given before after (Ok refused) = (verdict : Result ℕ (Option LoadFault)) × IsVerdict given verdict
     × (refused ≡ is_err verdict) × Appends before after (verdict_line file verdict)
 ProgramTells file given before after (Err reason) = IsUnwritten reason
 

@@ -10,7 +10,7 @@ use Rattle.klog_c.specs.Calls.{table_with_number, given_with, LoadsProgram, Load
 use Rattle.klog_c.specs.Explained.{extent_of, ExplainsProgram, ExplainsGiven, Explained}
 
 -- what bytes give by a table that a number names, if the number names one
-module _ {bytes : List ℕ} {number : ℕ} {named : Option Table} (table : Some named ≡ table_with_number number)
+module _ (bytes : List ℕ) (number : ℕ) (named : Option Table) (table : Some named ≡ table_with_number number)
     (before after : Option Object) (told : ℕ) where
   -- ---- loads
 
