@@ -6,8 +6,8 @@ use Rattle.program_file.specs.Choice.{given_program}
 use Rattle.script.specs.Words.{word_at}
 use Rattle.commands.specs.declared.{halts.Halt.Halt, status.Status.Status, status.Status.TheVariants.Failed}
 use Rattle.commands.specs.declared.halts.Halt.TheVariants as halt
-use Rattle.commands.specs.FileTransforms.{StreamsAs, KeepsIfRefused, CallWrites, CallLeaves, IsRefusedGiven, LeavesGiven}
-use Rattle.commands.specs.FileTransforms.{LoadsGiven, TransformsGiven, status_of_halt, Leaves, Streams}
+use Rattle.commands.specs.FileTransforms.{StreamsAs, KeepsIfRefused, CallWrites, CallLeaves, IsRefusedGiven}
+use Rattle.commands.specs.FileTransforms.{LeavesGiven, LoadsGiven, TransformsGiven, status_of_halt, Leaves, Streams}
 use Rattle.commands.specs.{Files.KeepsAll, Images.first_bytes, Listings.source_of}
 
 -- a program was loaded, and run on the bytes

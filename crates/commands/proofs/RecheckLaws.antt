@@ -1,6 +1,7 @@
 -- What is told of the programs of a list, line by line.
 use Rattle.std.proofs.Common.{◌≡◌, ◌⊎◌, ℕ, ◌+◌, ◌<◌, List, [], ◌∷◌, ◌++◌, length, take, drop, Result, Ok, Err, Option}
-use Rattle.std.proofs.Common.{Some, None, Bool, true, false, ◌||◌, refl, sym, ap, subst, inl, inr, ◌∙◌, append-nil, arith}
+use Rattle.std.proofs.Common.{Some, None, Bool, true, false, ◌||◌, refl, sym, ap, subst, inl, inr, ◌∙◌, append-nil}
+use Rattle.std.proofs.Common.{arith}
 use Rattle.std.proofs.{Math.Path.fun_ext, lemmas.List.Folds.list_any-append, lemmas.Slice.Zip.all_zipped_more}
 use Rattle.std.proofs.{lemmas.Slice.Zip.AllZip-long, KnownBytes.Appends-nil, KnownBytes.Appends-trans}
 use Rattle.std.proofs.Math.Bool.{or-false}

@@ -189,8 +189,8 @@ CallWrites named names stdin before after status = (image bytes : List ℕ) → 
     TransformsGiven (given_program named (first_bytes image)) bytes (length names - 2) status
     (λ output. after (word_at names (output + 2)))
 
--- However a transform by what a file gives ends, this holds of each output partition's file, which has what it had where
--- that is a program file that is refused.
+-- However a transform by what a file gives ends, this holds of each output partition's file. It has what it had where
+-- the program file is refused.
 abbrev pub LeavesGiven : Result GivenProgram FileFault → List ℕ → List (List ℕ) →
     (before after : List ℕ → Option (List ℕ)) → Type 0
 LeavesGiven (Ok given) bytes names before after = Leaves (program_in given) bytes names before after

@@ -1,5 +1,5 @@
 -- What loads and explanations do, by what bytes give as a program.
-use Rattle.std.proofs.Common.{◌≡◌, ◌≢◌, ℕ, Bool, List, Option, Some, option_map, Result, Ok, Err, refl, sym, subst, inl, inr}
+use Rattle.std.proofs.Common.{◌≡◌, ◌≢◌, ℕ, Bool, List, Option, Some, option_map, Result, Ok, Err, sym, subst, inl, inr}
 use Rattle.machine_spec.specs.declared.helper.Table.{Table}
 use Rattle.program_file.specs.declared.{fault.FileFault.FileFault, choice.GivenProgram.GivenProgram}
 use Rattle.program_file.specs.declared.fault.FileFault.TheVariants as file
@@ -32,7 +32,8 @@ module _ (bytes : List ℕ) (number : ℕ) (named : Option Table) (table : Some 
     no_memory (Err fault) same kept is = (inr (same, is), kept)
 
     pub not_loaded : (fault : FileFault) → IsFault file.Memory fault (given_program named bytes) → after ≡ before →
-        place ≡ place_before → told ≡ file_number fault → Loads (given_with bytes number) before after place_before place told
+        place ≡ place_before → told ≡ file_number fault →
+        Loads (given_with bytes number) before after place_before place told
     not_loaded file.Memory says same kept is = by_table (no_memory (given_program named bytes) same kept is)
     not_loaded fault says same kept is = by_table (subst (λ (said : Result GivenProgram FileFault). LoadsGiven said
         before after place_before place told) (sym (says (λ e. cc))) (inl (same, is), kept))
@@ -42,8 +43,8 @@ module _ (bytes : List ℕ) (number : ℕ) (named : Option Table) (table : Some 
   module _ (alone : Bool) where
     explained_by : ExplainsGiven (given_program named bytes) (extent_of alone) before after told →
         Explained (given_with bytes number) alone before after told
-    explained_by is = subst (λ (t : Option (Option Table)). Explained (option_map (λ named. given_program named bytes) t)
-        alone before after told) table is
+    explained_by is = subst (λ (t : Option (Option Table)).
+        Explained (option_map (λ named. given_program named bytes) t) alone before after told) table is
 
     pub explained : (given : GivenProgram) → given_program named bytes ≡ Ok given →
         ExplainsProgram (program_in given) (extent_of alone) before after told →

@@ -1,5 +1,6 @@
 use Rattle.command_line.specs.Calls.{names_of}
-use Rattle.commands.proofs.{CallLaws.called, CallLaws.called_leaves, CallLaws.uncalled, CallLaws.left_all, FileLaws.parts_after}
+use Rattle.commands.proofs.CallLaws.{called, called_leaves, uncalled, left_all}
+use Rattle.commands.proofs.FileLaws.{parts_after}
 use Rattle.commands.proofs.transforming.transform_files.Goals as goal
 
 pub returns-in-Ok-clause-written : goal.returns-in-Ok-clause-written
