@@ -48,6 +48,7 @@ IsRefusal inputs input old new rest (BookRefuses fault) = ⊥
 abbrev pub EndsAt : ℕ → ℕ → Stop → List Received → List Received → List ℕ → Result ⊤ Stop → Type 0
 EndsAt inputs input cause old new rest (Ok done) = (input < inputs) × (rest ≡ [])
 EndsAt inputs input cause old new rest (Err (stop.Line fault)) = ⊥
+EndsAt inputs input cause old new rest (Err (stop.Program fault)) = ⊥
 EndsAt inputs input cause old new rest (Err (stop.Broker fault)) = IsRefusal inputs input old new rest fault
 EndsAt inputs input cause old new rest (Err (stop.Batch fault)) = (input < inputs) × (rest ≢ [])
     × (batch_at rest ≡ Err fault)
@@ -70,6 +71,7 @@ pub record AppendsOf (inputs input : ℕ) (known : Option (List ℕ)) (cause : S
 abbrev pub Prints : Option (List ℕ) → Option (List ℕ) → List ℕ → Result ⊤ Stop → Type 0
 Prints before after text (Ok done) = Appends before after text
 Prints before after text (Err (stop.Line fault)) = Appends before after text
+Prints before after text (Err (stop.Program fault)) = Appends before after text
 Prints before after text (Err (stop.Broker fault)) = Appends before after text
 Prints before after text (Err (stop.Batch fault)) = Appends before after text
 Prints before after text (Err (stop.File name)) = Appends before after text
