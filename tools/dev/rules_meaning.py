@@ -1,4 +1,4 @@
-"""Says what becomes of a record by rules, as docs/rules.md says it. Not part of the build.
+"""Says what becomes of a record by rules, as docs/guide/rules.md says it. Not part of the build.
 
 It is written from the page and not from the crate `rules`, so that a compiler of rules can be compared with it. `parse`
 reads the rules of a text. `outcome` says what they make of a record at a place: the code that rejects it, or the list of

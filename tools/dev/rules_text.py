@@ -1,4 +1,4 @@
-"""Reads rules, as docs/rules.md says it. Not part of the build.
+"""Reads rules, as docs/guide/rules.md says it. Not part of the build.
 
 It is written from the page and not from the crate `rules`. `parse` gives the rules of a text, or raises a Fault.
 """
