@@ -97,8 +97,8 @@ def check_links():
 
 
 def run(command, room, environment):
-    """A command that ended; what it printed has its errors too."""
-    return subprocess.run(["bash", "-c", command], cwd=room, env=environment, text=True, timeout=600,
+    """A command that ended; what it printed has its errors too. One that takes an hour is ended, with status 124."""
+    return subprocess.run(["timeout", "3600", "bash", "-c", command], cwd=room, env=environment, text=True,
                           stdin=subprocess.DEVNULL, stdout=subprocess.PIPE, stderr=subprocess.STDOUT)
 
 
