@@ -77,8 +77,8 @@ module _ (named : Option Table) (names : List (List ℕ)) (before : List ℕ →
 -- a call that changes no file
 kept_left : (said : Result GivenProgram FileFault) (bytes : List ℕ) (names : List (List ℕ))
     (before after : List ℕ → Option (List ℕ)) → KeepsAll before after → LeavesGiven said bytes names before after
-kept_left (Ok given) bytes names before after kept output within = inl (kept _)
-kept_left (Err fault) bytes names before after kept output within = kept _
+kept_left (Ok given) bytes names before after kept = λ output within. inl (kept _)
+kept_left (Err fault) bytes names before after kept = λ output within. kept _
 
 pub left_all : (named : Option Table) (names : List (List ℕ)) (stdin : Option (List ℕ))
     (before after : List ℕ → Option (List ℕ)) → KeepsAll before after → CallLeaves named names stdin before after

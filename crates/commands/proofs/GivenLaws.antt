@@ -16,7 +16,8 @@ use Rattle.commands.specs.declared.stop.Stop.TheVariants as stop
 use Rattle.commands.specs.FileTransforms.{IsLoaded, IsUngiven, LoadsGiven}
 use Rattle.commands.specs.Given.{AreBytesIn, Gives, IsGiven, IsGivenBy, IsTold, OfGiven}
 use Rattle.commands.specs.{Hosts.KeepsInputs, Hosts.PrintsOfFile, Images.first_bytes, Sessions.LoadFails}
-use Rattle.commands.specs.Stops.{stop_of_file}
+use Rattle.commands.specs.Stops.{stop_of_file, EndsFor}
+use Rattle.broker.specs.Deployments.{LoadIs}
 
 pub read_as : (files : List ℕ → Option (List ℕ)) (name bytes : List ℕ) (named : Option Table)
     (result : Result GivenProgram Ungiven) → AreBytesIn files (File name) bytes →
@@ -90,3 +91,12 @@ pub not_given : (files : List ℕ → Option (List ℕ)) (name : List ℕ) (sour
 not_given files name source named bytes file.Memory reason are is same = inl same
 not_given files name source named bytes fault reason are is same =
     inr (inr (inl (fault, (bytes, are, is (λ e. cc)), same)))
+
+pub not_loaded : (files : List ℕ → Option (List ℕ)) (name : List ℕ) (source : FileWord) (named : Option Table)
+    (bytes : List ℕ) (given : GivenProgram) (reason : Stop) → AreBytesIn files source bytes →
+    given_program named bytes ≡ Ok given →
+    (reason ≡ stop.Memory) ⊎ EndsFor (λ fault. LoadIs name (program_in given) (Err fault)) reason →
+    (reason ≡ stop.Memory) ⊎ LoadFails files name source named reason
+not_loaded files name source named bytes given reason are says (inl memory) = inl memory
+not_loaded files name source named bytes given reason are says (inr ends) =
+    inr (inr (inr (given, (bytes, are, says), ends)))

@@ -11,7 +11,7 @@ pub returns-in-Ok : goal.returns-in-Ok
 returns-in-Ok g c = elim c.print_explanation.ensures.status [
   | inl same ↦ inr (inl (record {
     explanation = c.in-Ok.explanation;
-    explained = c.in-Ok.ensures;
+    explained = rw c.deref.ensures at c.in-Ok.ensures;
     status_is = same;
     printed = c.print_explanation.ensures.printed
         (λ is_failed. not_failed c.in-Ok.explanation.refusal (sym same ∙ is_failed));

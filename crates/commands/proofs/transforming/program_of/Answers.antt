@@ -3,7 +3,7 @@ use Rattle.annotate.specs.Loads.{FaultIs}
 use Rattle.program_file.specs.Choice.{program_in}
 use Rattle.commands.proofs.transforming.program_of.Goals as goal
 
-pub returns : goal.returns
-returns c =
+pub returns-in-Err : goal.returns-in-Err
+returns-in-Err c =
     let refused : FaultIs (program_in c.args.given.now) c.in-Err.fault = search rules in
     c.unloaded.ensures (program_in c.args.given.now) refused
