@@ -1,7 +1,8 @@
 /* klog's engine as a library: load an eBPF program once, run it on record batches or on single records.
  *
- * A program is loaded from its image, as `klog asm` or `tools/klogc/klogc` makes it. A load accepts exactly the
- * images that the verifier accepts, and what it accepts runs without a trap, within as many instructions as it
+ * A program is loaded from its image, as `klog asm` or `tools/klogc/klogc` makes it, or from a program file, which
+ * begins with the bytes KLOG and has the image's helper table beside it (docs/reference/machine.md). A load accepts exactly
+ * the images that the verifier accepts, and what it accepts runs without a trap, within as many instructions as it
  * has, and reads nothing but its record and its stack. docs/guide/library.md says what is proved of a call, and what
  * the caller owes.
  *
@@ -33,7 +34,8 @@ extern "C" {
 
 /* What a call returns. Of a refused image it is 101 to 106, the faults I1 to I6, at a slot of 8 bytes of the
  * image, or 201 to 213, the faults V1 to V13, at an instruction. Of a refused record batch it is 301 to 309, the
- * faults B1 to B9. docs/reference/faults.md has their causes and cures. */
+ * faults B1 to B9, and of a refused program file 401 to 404, the faults G1 to G4. docs/reference/faults.md has their causes and
+ * cures. */
 enum {
 	KLOG_OK = 0,
 	KLOG_MEMORY = 1, /* memory ran out */

@@ -34,9 +34,10 @@ pub enum Call<'a> {
     Recheck(&'a str),
     /// Does the commands of a script.
     Run(&'a str),
-    /// Runs a program of a helper table on record batches. The words: the image, the file of the
-    /// batches, and one file for each output partition, no two of them the same.
-    Transform(Table, &'a [String]),
+    /// Runs a program on record batches. Fields: the helper table that is named, if one is, and the words:
+    /// the image or program file, the file of the batches, and one file for each output partition, no two
+    /// of them the same.
+    Transform(Option<Table>, &'a [String]),
     /// Prints the version.
     Version,
 }

@@ -342,7 +342,7 @@ pub fn command<R: Threads + Wait + Sync, F: Files, I: Read, O: Write, E: Write>(
         Ok(Call::List(listing, file)) => list(host, listing, file),
         Ok(Call::Recheck(list)) => recheck(host, list),
         Ok(Call::Run(script)) => run(rt, host, script),
-        Ok(Call::Transform(table, words)) => transform(host, table, words),
+        Ok(Call::Transform(named, words)) => transform(host, named, words),
         Ok(Call::Version) => print_version(host.alloc, &mut host.stdout, &mut host.stderr),
         Err(Misuse::Usage) => tell_usage(&mut host.stderr).status,
         Err(Misuse::Memory) => tell_memory(&mut host.stderr),
