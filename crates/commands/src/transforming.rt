@@ -263,7 +263,7 @@ fn write_source<F: Files, I: Read, O, E: Write>(
 
 /// The same by the program of the first word and the helper table that is named, if one is. Where the program is refused
 /// or can't be read, all files stay.
-#[tactic(auto, using(crate::proofs::Kept::kept, crate::proofs::CallLaws::not_refused))]
+#[tactic(auto, using(crate::proofs::Kept::kept))]
 fn transform_files<F: Files, I: Read, O, E: Write>(
     host: &mut Host<F, I, O, E>,
     named: Option<Table>,
@@ -292,7 +292,7 @@ fn transform_files<F: Files, I: Read, O, E: Write>(
 /// more might reach the offset 2^62, or an output partition would have more than 2^63 rows. All files but those of the
 /// output partitions stay, and these too where the program is refused, and where one of them is one file with another
 /// file of the call. However it ends, each of them has what it had or whole batches of its rows.
-#[tactic(auto, using(crate::proofs::FileLaws::sources_kept, crate::proofs::CallLaws::left_all))]
+#[tactic(auto, using(crate::proofs::FileLaws::sources_kept))]
 pub fn transform<F: Files, I: Read, O, E: Write>(
     host: &mut Host<F, I, O, E>,
     named: Option<Table>,

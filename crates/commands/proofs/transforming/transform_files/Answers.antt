@@ -1,5 +1,5 @@
 use Rattle.command_line.specs.Calls.{names_of}
-use Rattle.commands.proofs.CallLaws.{called, called_leaves, uncalled, left_all}
+use Rattle.commands.proofs.CallLaws.{called, called_leaves, not_refused, uncalled, left_all}
 use Rattle.commands.proofs.FileLaws.{parts_after}
 use Rattle.commands.proofs.transforming.transform_files.Goals as goal
 
@@ -15,6 +15,11 @@ returns-in-Ok-clause-leaves g c = λ tells.
 
 pub returns-in-Ok-clause-parts : goal.returns-in-Ok-clause-parts
 returns-in-Ok-clause-parts g c = λ tells. parts_after g.F.Files.leads (names_of c.args.words.now) c.in-Ok.ensures.kept (c.write_source.ensures.parts tells)
+
+pub returns-in-Ok-clause-refused : goal.returns-in-Ok-clause-refused
+returns-in-Ok-clause-refused g c =
+    not_refused c.args.named (names_of c.args.words.now) (g.F.Files.bytes c.args.host.now.files) _ c.name_at.ensures
+    (g.F.Files.bytes c.write_source.new.host.files) _ c.in-Ok.ensures.loaded
 
 pub returns-in-Err-clause-written : goal.returns-in-Err-clause-written
 returns-in-Err-clause-written g c = λ tells.
