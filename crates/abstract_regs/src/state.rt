@@ -159,6 +159,27 @@ impl State {
         checks::failed_check(instruction, &self.inner, table)
     }
 
+    /// Goes on to the next instruction from one whose checks pass. Returns whether a run can come there; where it
+    /// can't, nothing is said of the state any more.
+    pub fn fall(&mut self, instruction: Instruction) -> bool
+        requires { failed_check HELPERS instruction self.old ≡ None }
+        ensures next { (if result then Some self.new else None) ≡ falls_to instruction self.old }
+        ensures proper { is_proper self.old ≡ true }
+        ensures next_proper { is_proper self.new ≡ true }
+    {
+        transfer::fall(instruction, &mut self.inner)
+    }
+
+    /// Takes an instruction's jump, if it has one. Returns whether a run can take it; where it can't, nothing is said of
+    /// the state any more.
+    pub fn jump(&mut self, instruction: Instruction) -> bool
+        ensures jump { (if result then Some self.new else None) ≡ jumps_to instruction self.old }
+        ensures proper { is_proper self.old ≡ true }
+        ensures jump_proper { is_proper self.new ≡ true }
+    {
+        transfer::jump(instruction, &mut self.inner)
+    }
+
     /// What an instruction whose checks pass makes of this state, along each of its edges.
     pub fn transfer(&self, instruction: Instruction) -> Edges
         requires { failed_check HELPERS instruction self.now ≡ None }
@@ -168,9 +189,19 @@ impl State {
         ensures next_proper { IfSome result.next (λ s. is_proper s ≡ true) }
         ensures jump_proper { IfSome result.jump (λ s. is_proper s ≡ true) }
     {
+        let mut next = *self;
+        let mut jump = *self;
         Edges {
-            next: whole(transfer::falls_to(instruction, &self.inner)),
-            jump: whole(transfer::jumps_to(instruction, &self.inner)),
+            next: if next.fall(instruction) {
+                Some(next)
+            } else {
+                None
+            },
+            jump: if jump.jump(instruction) {
+                Some(jump)
+            } else {
+                None
+            },
         }
     }
 }
@@ -181,14 +212,4 @@ impl State {
 pub struct Edges {
     pub next: Option<State>,
     pub jump: Option<State>,
-}
-
-fn whole(inner: Option<Abstract>) -> Option<State>
-    requires { IfSome inner (λ s. is_proper s ≡ true) }
-    ensures { result ≡ inner }
-{
-    match inner {
-        Some(inner) => Some(State { inner }),
-        None => None,
-    }
 }

@@ -1,4 +1,4 @@
-ghost use Rattle.std.specs.Prelude.{◌≡◌, ◌≤◌, pos, neg_ℤ, ◌+ℤ◌, ◌≤ℤ◌, true, false, None, Some, IfSome, slice_set};
+ghost use Rattle.std.specs.Prelude.{◌≡◌, ℕ, ◌≤◌, pos, neg_ℤ, ◌+ℤ◌, ◌≤ℤ◌, true, false, if◌then◌else◌, None, Some, IfSome, slice_set};
 ghost use Rattle.verifier_spec.specs.Kinds.{kind_at, length_range, range_of, is_proper_kind, furthest};
 ghost use Rattle.verifier_spec.specs.States.{is_proper};
 ghost use Rattle.std.specs.Ordering.{int_eq};
@@ -6,7 +6,7 @@ ghost use Rattle.std.specs.List.{list_any, fold};
 ghost use Rattle.machine_spec.specs.Machine.{signature_of, helper_of};
 ghost use Rattle.machine_spec.specs.declared.summary.Direction.TheVariants as direction;
 ghost use Rattle.verifier_spec.specs.Checks.{can_move, can_compute_kinds, source_kind, reach_at, may_leave_stack, named_reach, may_be_wrong_room, is_wrong_argument_kind, failed_check};
-ghost use Rattle.verifier_spec.specs.Transfer.{with_kind, numbers, on_ranges, moved_address, moved_kind, computed_kind, changed_kind, loaded_kind, with_stored, with_room, with_argument, with_lengths, with_range, narrowed_range, state_after_test, answer_kind, after_call_kinds, called_kinds, met_edge, jump_edge, falls_to, jumps_to};
+ghost use Rattle.verifier_spec.specs.Transfer.{with_kind, numbers, on_ranges, moved_address, moved_kind, computed_kind, changed_kind, loaded_kind, with_stored, with_room, with_argument, with_lengths, with_range, narrowed_range, state_after_test, answer_kind, after_call_kinds, called_kinds, met_edge, falls_to, jumps_to};
 ghost use Rattle.machine_spec.specs.declared.helper.TheConstants.{HELPERS};
 
 use crate::checks;
@@ -19,29 +19,22 @@ use verifier_spec::{Abs, Abstract, Interval, Range, StackSet};
 
 // ---- a register's kind
 
-fn set_kind(kinds: &[Abs; 11], register: usize, kind: Abs) -> [Abs; 11]
-    ensures { result ≡ slice_set kinds.now register kind }
+fn put_kind(kinds: &mut [Abs; 11], register: usize, kind: Abs)
+    ensures { kinds.new ≡ slice_set kinds.old register kind }
 {
-    let mut changed = *kinds;
     if register < 11 {
-        changed[register] = kind;
+        kinds[register] = kind;
     }
-    changed
 }
 
 #[tactic(auto, using(verifier_spec::proofs::Proper::with_kind_proper))]
-fn with_kind(state: &Abstract, register: u8, kind: Abs) -> Abstract
-    requires state { is_proper state.now ≡ true }
+fn set_kind(state: &mut Abstract, register: u8, kind: Abs)
+    requires state { is_proper state.old ≡ true }
     requires kind { is_proper_kind kind ≡ true }
-    ensures changed { result ≡ with_kind state.now register kind }
-    ensures proper { is_proper result ≡ true }
+    ensures changed { state.new ≡ with_kind state.old register kind }
+    ensures proper { is_proper state.new ≡ true }
 {
-    Abstract {
-        registers: set_kind(&state.registers, register as usize, kind),
-        key: state.key,
-        value: state.value,
-        set: state.set,
-    }
+    put_kind(&mut state.registers, register as usize, kind);
 }
 
 // ---- arithmetic
@@ -212,54 +205,45 @@ fn with_stored(set: &StackSet, base: Abs, offset: i16, size: Size) -> StackSet
 }
 
 #[tactic(auto, using(crate::proofs::Passes::store_inside, verifier_spec::proofs::Proper::with_set_proper), unfolding(verifier_spec::specs::Transfer::falls_to))]
-fn state_after_store(
-    state: &Abstract,
-    size: Size,
-    base: u8,
-    offset: i16,
-    source: Source,
-) -> Abstract
-    requires state { is_proper state.now ≡ true }
-    requires passes { failed_check HELPERS (Instruction.Store size base offset source) state.now ≡ None }
-    ensures stored { Some result ≡ falls_to (Instruction.Store size base offset source) state.now }
-    ensures proper { is_proper result ≡ true }
+fn store(state: &mut Abstract, size: Size, base: u8, offset: i16, source: Source)
+    requires state { is_proper state.old ≡ true }
+    requires passes { failed_check HELPERS (Instruction.Store size base offset source) state.old ≡ None }
+    ensures stored { Some state.new ≡ falls_to (Instruction.Store size base offset source) state.old }
+    ensures proper { is_proper state.new ≡ true }
 {
-    let mut changed = *state;
-    changed.set = with_stored(&state.set, kinds::kind_at(state, base), offset, size);
-    changed
+    state.set = with_stored(&state.set, kinds::kind_at(state, base), offset, size);
 }
 
 // ---- conditional jumps by a constant
 
-/// The state with another range of a region's lengths.
+/// Sets the range of a region's lengths.
 #[tactic(auto, using(verifier_spec::proofs::Proper::with_lengths_proper))]
-fn with_lengths(state: &Abstract, region: Region, range: Range) -> Abstract
-    requires state { is_proper state.now ≡ true }
+fn set_lengths(state: &mut Abstract, region: Region, range: Range)
+    requires state { is_proper state.old ≡ true }
     requires range { range.min ≤ range.max }
-    requires inside { range.max ≤ (length_range state.now region).max }
-    ensures changed { result ≡ with_lengths state.now region range }
-    ensures proper { is_proper result ≡ true }
+    requires inside { range.max ≤ (length_range state.old region).max }
+    ensures changed { state.new ≡ with_lengths state.old region range }
+    ensures proper { is_proper state.new ≡ true }
 {
-    let mut changed = *state;
     match region {
         Region::Stack => {}
-        Region::Key => changed.key = range,
-        Region::Value => changed.value = range,
+        Region::Key => state.key = range,
+        Region::Value => state.value = range,
     }
-    changed
 }
 
+/// Leaves these lengths of a region, if there are any.
 #[tactic(auto, using(verifier_spec::proofs::Proper::length_range_limit))]
-fn length_edge(
-    state: &Abstract,
+fn narrow_lengths(
+    state: &mut Abstract,
     register: u8,
     region: Region,
     narrow: Option<Interval>,
-) -> Option<Abstract>
-    requires state { is_proper state.now ≡ true }
-    requires range { IfSome narrow (λ r. (r.low ≤ r.high) × (r.high ≤ (length_range state.now region).max)) }
-    ensures edge { result ≡ with_range state.now register (Abs.Len region) narrow }
-    ensures proper { IfSome result (λ s. is_proper s ≡ true) }
+) -> bool
+    requires state { is_proper state.old ≡ true }
+    requires range { IfSome narrow (λ r. (r.low ≤ r.high) × (r.high ≤ (length_range state.old region).max)) }
+    ensures edge { (if result then Some state.new else None) ≡ with_range state.old register (Abs.Len region) narrow }
+    ensures proper { is_proper state.new ≡ true }
 {
     match narrow {
         Some(part) => {
@@ -267,65 +251,78 @@ fn length_edge(
                 min: part.low as u32,
                 max: part.high as u32,
             };
-            Some(with_lengths(state, region, range))
+            set_lengths(state, region, range);
+            true
         }
-        None => None,
+        None => false,
     }
 }
 
-/// The state along an edge of a jump by a constant, of a register of this kind.
-fn edge_of(
-    state: &Abstract,
+/// Leaves these numbers of a register, if there are any.
+fn narrow_numbers(state: &mut Abstract, register: u8, narrow: Option<Interval>) -> bool
+    requires state { is_proper state.old ≡ true }
+    requires range { IfSome narrow (λ r. r.low ≤ r.high) }
+    ensures edge { (low high : ℕ) → (if result then Some state.new else None) ≡ with_range state.old register (Abs.Num low high) narrow }
+    ensures proper { is_proper state.new ≡ true }
+{
+    match narrow {
+        Some(part) => {
+            set_kind(state, register, numbers(part));
+            true
+        }
+        None => false,
+    }
+}
+
+/// The state along an edge of a jump by a constant, of a register of this kind. Returns whether the edge may be taken.
+fn follow_edge(
+    state: &mut Abstract,
     test: (Width, Test),
     along: bool,
     register: u8,
     kind: Abs,
     constant: u64,
-) -> Option<Abstract>
-    requires state { is_proper state.now ≡ true }
+) -> bool
+    requires state { is_proper state.old ≡ true }
     requires kind { is_proper_kind kind ≡ true }
-    ensures edge { result ≡ with_range state.now register kind (narrowed_range test.0 test.1 along (range_of state.now kind) constant) }
-    ensures proper { IfSome result (λ s. is_proper s ≡ true) }
+    ensures edge { (if result then Some state.new else None)
+        ≡ with_range state.old register kind (narrowed_range test.0 test.1 along (range_of state.old kind) constant) }
+    ensures proper { is_proper state.new ≡ true }
 {
     match kind {
-        Abs::None => Some(*state),
+        Abs::None => true,
         Abs::Num(low, high) => {
             let range = Interval { low, high };
-            match lattice::narrowed(test.0, test.1, along, range, constant) {
-                Some(part) => Some(with_kind(state, register, numbers(part))),
-                None => None,
-            }
+            let narrow = lattice::narrowed(test.0, test.1, along, range, constant);
+            narrow_numbers(state, register, narrow)
         }
         Abs::Len(region) => {
             let range = kinds::length_interval(state, region);
             let narrow = lattice::narrowed(test.0, test.1, along, range, constant);
-            length_edge(state, register, region, narrow)
+            narrow_lengths(state, register, region, narrow)
         }
-        Abs::Addr(_, _, _) => Some(*state),
+        Abs::Addr(_, _, _) => true,
     }
 }
 
-fn state_after_test(
-    state: &Abstract,
+fn follow_test(
+    state: &mut Abstract,
     test: (Width, Test),
     along: bool,
     register: u8,
     source: Source,
-) -> Option<Abstract>
-    requires { is_proper state.now ≡ true }
-    ensures edge { result ≡ state_after_test state.now test.0 test.1 along register source }
-    ensures proper { IfSome result (λ s. is_proper s ≡ true) }
+) -> bool
+    requires { is_proper state.old ≡ true }
+    ensures edge { (if result then Some state.new else None) ≡ state_after_test state.old test.0 test.1 along register source }
+    ensures proper { is_proper state.new ≡ true }
 {
     match source {
-        Source::Register(_) => Some(*state),
-        Source::Immediate(immediate) => edge_of(
-            state,
-            test,
-            along,
-            register,
-            kinds::kind_at(state, register),
-            kinds::constant(test.0, immediate),
-        ),
+        Source::Register(_) => true,
+        Source::Immediate(immediate) => {
+            let kind = kinds::kind_at(state, register);
+            let constant = kinds::constant(test.0, immediate);
+            follow_edge(state, test, along, register, kind, constant)
+        }
     }
 }
 
@@ -425,124 +422,105 @@ fn with_arguments(state: &Abstract, arguments: &[Argument]) -> StackSet
 }
 
 #[tactic(auto, using(crate::proofs::Calls::called_proper))]
-fn state_after_call(state: &Abstract, helper: Helper) -> Abstract
-    requires state { is_proper state.now ≡ true }
-    requires right { list_any (is_wrong_argument_kind state.now) (signature_of helper).arguments ≡ false }
-    ensures called { Some result ≡ called_kinds (Some helper) state.now }
-    ensures proper { is_proper result ≡ true }
+fn call(state: &mut Abstract, helper: Helper)
+    requires state { is_proper state.old ≡ true }
+    requires right { list_any (is_wrong_argument_kind state.old) (signature_of helper).arguments ≡ false }
+    ensures called { Some state.new ≡ called_kinds (Some helper) state.old }
+    ensures proper { is_proper state.new ≡ true }
 {
-    Abstract {
-        registers: after_call_kinds(&state.registers, answer_kind(helper)),
-        key: state.key,
-        value: state.value,
-        set: with_arguments(state, &helper.signature().arguments),
-    }
+    let set = with_arguments(state, &helper.signature().arguments);
+    state.registers = after_call_kinds(&state.registers, answer_kind(helper));
+    state.set = set;
 }
 
-/// The state after a call, if a helper has the number.
-fn called_by(state: &Abstract, number: i32) -> Option<Abstract>
-    requires state { is_proper state.now ≡ true }
-    requires passes { failed_check HELPERS (Instruction.Call number) state.now ≡ None }
-    ensures called { result ≡ called_kinds (helper_of number) state.now }
-    ensures proper { IfSome result (λ s. is_proper s ≡ true) }
+/// The state after a call. Returns whether a helper has the number.
+fn call_numbered(state: &mut Abstract, number: i32) -> bool
+    requires state { is_proper state.old ≡ true }
+    requires passes { failed_check HELPERS (Instruction.Call number) state.old ≡ None }
+    ensures called { (if result then Some state.new else None) ≡ called_kinds (helper_of number) state.old }
+    ensures proper { is_proper state.new ≡ true }
 {
     match Helper::with_number(number) {
-        Some(helper) => Some(state_after_call(state, helper)),
-        None => None,
+        Some(helper) => {
+            call(state, helper);
+            true
+        }
+        None => false,
     }
 }
 
 // ---- the two edges
 
 #[tactic(auto, using(crate::proofs::Passes::can_compute_passes))]
-fn state_after_operation(
-    state: &Abstract,
-    width: Width,
-    operation: Operation,
-    register: u8,
-    source: Source,
-) -> Abstract
-    requires state { is_proper state.now ≡ true }
-    requires passes { failed_check HELPERS (Instruction.Compute width operation register source) state.now ≡ None }
-    ensures edge { result ≡ with_kind state.now register
-        (computed_kind state.now width operation (kind_at state.now register) (source_kind state.now width source)) }
-    ensures proper { is_proper result ≡ true }
+fn compute(state: &mut Abstract, width: Width, operation: Operation, register: u8, source: Source)
+    requires state { is_proper state.old ≡ true }
+    requires passes { failed_check HELPERS (Instruction.Compute width operation register source) state.old ≡ None }
+    ensures edge { state.new ≡ with_kind state.old register
+        (computed_kind state.old width operation (kind_at state.old register) (source_kind state.old width source)) }
+    ensures proper { is_proper state.new ≡ true }
 {
     let to = kinds::kind_at(state, register);
     let by = kinds::source_kind(state, width, source);
-    with_kind(
-        state,
-        register,
-        computed_kind(state, width, operation, to, by),
-    )
+    let kind = computed_kind(state, width, operation, to, by);
+    set_kind(state, register, kind);
 }
 
-/// Of an instruction whose checks pass: the state at the next instruction, or none where it can't
-/// come there.
+/// Goes on to the next instruction from one whose checks pass. Returns whether a run can come there.
 #[tactic(auto, unfolding(verifier_spec::specs::Transfer::falls_to))]
-pub fn falls_to(instruction: Instruction, state: &Abstract) -> Option<Abstract>
-    requires state { is_proper state.now ≡ true }
-    requires passes { failed_check HELPERS instruction state.now ≡ None }
-    ensures edge { result ≡ falls_to instruction state.now }
-    ensures proper { IfSome result (λ s. is_proper s ≡ true) }
+pub fn fall(instruction: Instruction, state: &mut Abstract) -> bool
+    requires state { is_proper state.old ≡ true }
+    requires passes { failed_check HELPERS instruction state.old ≡ None }
+    ensures edge { (if result then Some state.new else None) ≡ falls_to instruction state.old }
+    ensures proper { is_proper state.new ≡ true }
 {
     match instruction {
         Instruction::Move(width, dst, source) => {
             let kind = kinds::source_kind(state, width, source);
-            Some(with_kind(state, dst, moved_kind(state, width, kind)))
+            let kind = moved_kind(state, width, kind);
+            set_kind(state, dst, kind);
         }
         Instruction::Compute(width, operation, dst, source) => {
-            Some(state_after_operation(state, width, operation, dst, source))
+            compute(state, width, operation, dst, source);
         }
         Instruction::Unary(change, dst, src) => {
-            let kind = kinds::kind_at(state, src);
-            Some(with_kind(state, dst, changed_kind(state, change, kind)))
+            let kind = changed_kind(state, change, kinds::kind_at(state, src));
+            set_kind(state, dst, kind);
         }
         Instruction::Load(size, extension, dst, _, _) => {
-            Some(with_kind(state, dst, loaded_kind(size, extension)))
+            set_kind(state, dst, loaded_kind(size, extension));
         }
-        Instruction::Store(size, base, offset, source) => {
-            Some(state_after_store(state, size, base, offset, source))
-        }
+        Instruction::Store(size, base, offset, source) => store(state, size, base, offset, source),
         Instruction::JumpIf(width, test, dst, source, _) => {
-            state_after_test(state, (width, test), false, dst, source)
+            return follow_test(state, (width, test), false, dst, source);
         }
-        Instruction::Jump(_) => None,
-        Instruction::Wide(dst, number) => Some(with_kind(state, dst, Abs::Num(number, number))),
-        Instruction::Call(number) => called_by(state, number),
-        Instruction::Exit => None,
+        Instruction::Wide(dst, number) => set_kind(state, dst, Abs::Num(number, number)),
+        Instruction::Call(number) => return call_numbered(state, number),
+        Instruction::Jump(_) | Instruction::Exit => return false,
     }
+    true
 }
 
-fn met_edge(condition: Option<Condition>, state: &Abstract) -> Option<Abstract>
-    requires { is_proper state.now ≡ true }
-    ensures edge { result ≡ met_edge condition state.now }
-    ensures proper { IfSome result (λ s. is_proper s ≡ true) }
+fn meet(condition: Option<Condition>, state: &mut Abstract) -> bool
+    requires { is_proper state.old ≡ true }
+    ensures edge { (if result then Some state.new else None) ≡ met_edge condition state.old }
+    ensures proper { is_proper state.new ≡ true }
 {
     match condition {
-        Some(c) => state_after_test(state, (c.width, c.test), true, c.dst, c.source),
-        None => Some(*state),
+        Some(c) => follow_test(state, (c.width, c.test), true, c.dst, c.source),
+        None => true,
     }
 }
 
-fn jump_edge(condition: Option<Condition>, jump: Option<i32>, state: &Abstract) -> Option<Abstract>
-    requires { is_proper state.now ≡ true }
-    ensures edge { result ≡ jump_edge condition jump state.now }
-    ensures proper { IfSome result (λ s. is_proper s ≡ true) }
-{
-    match jump {
-        Some(_) => met_edge(condition, state),
-        None => None,
-    }
-}
-
-/// The state at the target of a jump that is taken, or none.
+/// Takes an instruction's jump, if it has one. Returns whether a run can take it.
 #[tactic(auto, unfolding(verifier_spec::specs::Transfer::jumps_to))]
-pub fn jumps_to(instruction: Instruction, state: &Abstract) -> Option<Abstract>
-    requires { is_proper state.now ≡ true }
-    ensures edge { result ≡ jumps_to instruction state.now }
-    ensures proper { IfSome result (λ s. is_proper s ≡ true) }
+pub fn jump(instruction: Instruction, state: &mut Abstract) -> bool
+    requires { is_proper state.old ≡ true }
+    ensures edge { (if result then Some state.new else None) ≡ jumps_to instruction state.old }
+    ensures proper { is_proper state.new ≡ true }
 {
     let summary = Summary::of(instruction);
-    jump_edge(summary.condition, summary.jump, state)
+    match summary.jump {
+        Some(_) => meet(summary.condition, state),
+        None => false,
+    }
 }

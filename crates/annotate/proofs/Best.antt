@@ -1,5 +1,5 @@
 -- The joined states of an image's code are best: within every annotation's, and none has one where they have a fault.
-use Rattle.std.proofs.Common.{◌≡◌, ◌≢◌, ℕ, ◌<◌, ◌≤◌, true, List, length, Option, Some, Ok}
+use Rattle.std.proofs.Common.{◌≡◌, ◌≢◌, ℕ, ◌<◌, ◌≤◌, true, List, length, Option, Some, None, Ok}
 use Rattle.std.proofs.Common.{refl, sym, ap, ◌∙◌, subst, inl, inr, arith}
 use Rattle.std.proofs.{lemmas.Bool.cases_lt, lemmas.Option.none-some}
 use Rattle.machine_spec.specs.declared.{helper.Helper.Helper, instruction.Placed.Placed}
@@ -11,6 +11,8 @@ use Rattle.verifier_spec.specs.declared.fault.Check.TheVariants as check
 use Rattle.verifier_spec.specs.Annotation.{Claims, claim_at, is_edge_covered, fault_of, IsAnnotation}
 use Rattle.verifier_spec.specs.{JoinedStates.joined_states, Loading.IsAccepted, Loading.IsRefusedWith}
 use Rattle.verifier_spec.proofs.JoinedStates.{length-joined_states, claim_joined}
+use Rattle.verifier_spec.proofs.Faults.{annotation_from_none}
+use Rattle.verifier_spec.specs.States.{is_proper}
 use Rattle.verifier_spec.proofs.BestAnnotation.{AreJoinedProper, known_below, no_fault, fault_is_other}
 use Rattle.annotate.proofs.Answered.{claimed_fault}
 use Rattle.notes.proofs.Lookups.{claim_at_past}
@@ -29,6 +31,21 @@ joined_best helpers code claims is proper other annotation k =
           let le : length (joined_states helpers code) ≤ k = omega (arith, past, length-joined_states helpers code) in
           subst P (sym (claim_at_past (joined_states helpers code) k le)) refl
     ])
+
+-- an annotation where they have no fault
+pub joined_annotation : (helpers : List Helper) (code : List Placed) (claims : Claims) →
+    claims ≡ joined_states helpers code → AreJoinedProper helpers code →
+    fault_of helpers code (joined_states helpers code) ≡ None → IsAnnotation helpers code claims
+joined_annotation helpers code claims is proper none =
+    let joined = joined_states helpers code in
+    let each : (k : ℕ) (s : Abstract) → claim_at joined k ≡ Some s → is_proper s ≡ true =
+    λ k s e. elim (cases_lt k (length code)) [
+      | inl below ↦ proper k s below (sym (claim_joined helpers code k below) ∙ e)
+      | inr past ↦
+          let le : length joined ≤ k = omega (arith, past, length-joined_states helpers code) in
+          absurd (none-some s (sym (claim_at_past joined k le) ∙ e))
+    ] in
+    subst (λ (ns : Claims). IsAnnotation helpers code ns) (sym is) (annotation_from_none helpers code joined none each)
 
 module _ (program : Program) (code : List Placed) (is_code : IsCodeOf program.image code) where
   abbrev helpers : List Helper

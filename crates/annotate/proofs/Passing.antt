@@ -24,17 +24,16 @@ other_claim claims k s j other =
     ]
 
 -- one claim joined
-pub brought : (claims : Claims) (k : ℕ) (s new : Abstract) → k < length claims →
-    Some new ≡ joined_claims (claim_at claims k) (Some s) → (j : ℕ) →
-    claim_at (set claims k (Some new)) j ≡ with_edge j (Some k) (Some s) (claim_at claims j)
+pub brought : (claims : Claims) (k : ℕ) (s : Abstract) (new : Option Abstract) → k < length claims →
+    new ≡ joined_claims (claim_at claims k) (Some s) → (j : ℕ) →
+    claim_at (set claims k new) j ≡ with_edge j (Some k) (Some s) (claim_at claims j)
 brought claims k s new inside is j = elim (cases_eq j k) [
   | inl same ↦
-      let P : ℕ → Type 0 = λ n. claim_at (set claims k (Some new)) n
-      ≡ with_edge n (Some k) (Some s) (claim_at claims n) in
-      subst P (sym same) (claim_at-set claims k (Some new) inside ∙ is
+      let P : ℕ → Type 0 = λ n. claim_at (set claims k new) n ≡ with_edge n (Some k) (Some s) (claim_at claims n) in
+      subst P (sym same) (claim_at-set claims k new inside ∙ is
       ∙ sym (cond-true (k == k) (joined_claims (claim_at claims k) (Some s)) (claim_at claims k)
       (eq-eqb k k refl)))
-  | inr other ↦ claim_at-set_other claims k j (Some new) other ∙ sym (other_claim claims k s j other)
+  | inr other ↦ claim_at-set_other claims k j new other ∙ sym (other_claim claims k s j other)
 ]
 
 pub claim_at-replicate : (n j : ℕ) → claim_at (replicate n None) j ≡ None
@@ -101,15 +100,19 @@ module _ (helpers : List Helper) where
     later_known j = ap (λ (o : Option Placed). with_instruction helpers code j k o (known_after helpers code k k)
         (known_after helpers code k j)) (sym at)
 
+    pub own_known : (states : Claims) (own : Option Abstract) → own ≡ claim_at states k →
+        IsPassed helpers code states k → own ≡ known_after helpers code k k
+    own_known states own is_own passed =
+        let both : min k k ≡ k = omega arith in
+        let below : k < length states = omega (arith, slice_get_within code k placed at, passed.long) in
+        is_own ∙ passed.each k below ∙ ap (λ (n : ℕ). known_after helpers code n k) both
+
     module _ (states next : Claims) (own : Option Abstract) (is_own : own ≡ claim_at states k)
         (passed : IsPassed helpers code states k) (long : length next ≡ length states)
         (each : HasEachClaim next (λ j. with_instruction helpers code j k (Some placed) own (claim_at states j)))
         (proper : IfSome own (λ s. is_proper s ≡ true)) where
-      own_known : own ≡ known_after helpers code k k
-      own_known =
-          let both : min k k ≡ k = omega arith in
-          let below : k < length states = omega (arith, slice_get_within code k placed at, passed.long) in
-          is_own ∙ passed.each k below ∙ ap (λ (n : ℕ). known_after helpers code n k) both
+      is_known : own ≡ known_after helpers code k k
+      is_known = own_known states own is_own passed
 
       each_known : (j : ℕ) → j < length next → claim_at next j ≡ known_after helpers code (min (k + 1) j) j
       each_known j under =
@@ -124,7 +127,7 @@ module _ (helpers : List Helper) where
                 one ∙ two ∙ ap (λ (n : ℕ). with_instruction helpers code j k (Some placed) own
                 (known_after helpers code n j)) old
                 ∙ ap (λ (o : Option Abstract). with_instruction helpers code j k (Some placed) o
-                (known_after helpers code k j)) own_known
+                (known_after helpers code k j)) is_known
                 ∙ later_known j
                 ∙ ap (λ (n : ℕ). known_after helpers code n j) new
             | inr before ↦
@@ -141,7 +144,7 @@ module _ (helpers : List Helper) where
         long = long ∙ passed.long;
         each = each_known;
         proper = λ i s under e. elim (cases_eq i k) [
-          | inl last ↦ own_proper s (own_known ∙ ap (λ (n : ℕ). known_after helpers code n n) (sym last) ∙ e)
+          | inl last ↦ own_proper s (is_known ∙ ap (λ (n : ℕ). known_after helpers code n n) (sym last) ∙ e)
           | inr other ↦ passed.proper i s (omega (arith, under, other)) e
         ];
       }

@@ -1,13 +1,24 @@
-ghost use Rattle.std.specs.Prelude.{IfErr};
+ghost use Rattle.std.specs.Prelude.{◌≡◌, IfErr};
+ghost use Rattle.verifier_spec.specs.declared.fault.Check.TheVariants as fault;
 ghost use Rattle.machine_spec.specs.Image.{program_of};
 ghost use Rattle.annotate.specs.Loads.{Loads, IsOfImage, IsAtStart};
 
-use crate::joining::joined_states;
+use crate::joining::join_all;
 use bpf_isa::decode;
 use machine_spec::Table;
-use notes::{Check, Verified, VerifyFault};
+use notes::{Check, Verified, VerifyFault, keep_joined};
 use std::alloc::Global;
 use verifier_spec::LoadFault;
+
+/// The refusal of a program for which memory ran out.
+fn out_of_memory() -> VerifyFault
+    ensures { result ≡ record { pc = 0; kind = fault.Memory } }
+{
+    VerifyFault {
+        pc: 0,
+        kind: Check::Memory,
+    }
+}
 
 /// The verified program of an image that may call the helpers of a table: its instructions, each with
 /// the least abstract state above all that the edges of reached instructions before it propagate.
@@ -22,17 +33,18 @@ pub fn load(alloc: Global, image: &[u8], table: Table) -> Result<Verified, LoadF
     ensures other { IfErr result IsOfImage }
     ensures memory { IfErr result IsAtStart }
 {
-    match decode(alloc, image) {
-        Err(fault) => Err(LoadFault::Isa(fault)),
-        Ok(code) => match joined_states(alloc, &code, table) {
-            Err(_) => Err(LoadFault::Verify(VerifyFault {
-                pc: 0,
-                kind: Check::Memory,
-            })),
-            Ok(states) => match notes::check(alloc, code, table, states) {
-                Err(fault) => Err(LoadFault::Verify(fault)),
-                Ok(verified) => Ok(verified),
-            },
-        },
+    let code = match decode(alloc, image) {
+        Err(fault) => return Err(LoadFault::Isa(fault)),
+        Ok(code) => code,
+    };
+    let Ok(joined) = join_all(alloc, &code, table) else {
+        return Err(LoadFault::Verify(out_of_memory()));
+    };
+    if let Some(fault) = joined.fault {
+        return Err(LoadFault::Verify(fault));
+    }
+    match keep_joined(alloc, code, table, &joined.states) {
+        Ok(verified) => Ok(verified),
+        Err(_) => Err(LoadFault::Verify(out_of_memory())),
     }
 }

@@ -1,5 +1,5 @@
 -- The states that follow from given ones: of an annotation's they are an annotation.
-use Rattle.std.proofs.Common.{◌≡◌, ◌≢◌, ℕ, zero, suc, ◌+◌, ◌<◌, Bool, true, false, List, [], ◌∷◌, length, get_or}
+use Rattle.std.proofs.Common.{◌≡◌, ℕ, zero, suc, ◌+◌, ◌<◌, Bool, true, false, List, [], ◌∷◌, length, get_or}
 use Rattle.std.proofs.Common.{Option, Some, None, refl, sym, ap, ◌∙◌, subst, ◌⊎◌, inl, inr, arith, ◌↔◌, IsTrue}
 use Rattle.std.proofs.Common.{slice_get}
 use Rattle.std.specs.Prelude.{unwrap_or}
@@ -411,24 +411,21 @@ module _ (helpers : List Helper) where
 
   -- ---- kept states
 
-  -- what follows from the kept states of what follows is the same
-  pub settled_again : (code : List Placed) (claims : Claims) →
-      derived_claims helpers code (pair_at (kept_states code (settled_claims helpers code claims)))
-      ≡ settled_claims helpers code claims
-  settled_again code claims =
+  -- what settles settles as it is
+  pub settled_twice : (code : List Placed) (claims : Claims) →
+      settled_claims helpers code (settled_claims helpers code claims) ≡ settled_claims helpers code claims
+  settled_twice code claims =
       let states = settled_claims helpers code claims in
       let given = at_targets code claims in
-      let other = pair_at (kept_states code states) in
+      let other = at_targets code states in
       let again : (k : ℕ) → k < length code → IsAgain code given other k =
       λ k under.
       elim (cases_Bool (is_jump_target code k)) [
-        | inl jumped ↦ inl (pair_kept code states k ∙ cond-true (is_jump_target code k) (claim_at states k) None jumped
+        | inl jumped ↦ inl (cond-true (is_jump_target code k) (claim_at states k) None jumped
             ∙ claim_derived code given k under)
         | inr apart ↦ inr (
-          pair_kept code states k
-              ∙ cond-false (is_jump_target code k) (claim_at states k) None apart,
-          cond-false (is_jump_target code k)
-              (claim_at claims k) None apart,
+          cond-false (is_jump_target code k) (claim_at states k) None apart,
+          cond-false (is_jump_target code k) (claim_at claims k) None apart,
         )
       ] in
       is_derived code given (derived_claims helpers code other) (length-derived code other)
@@ -436,30 +433,30 @@ module _ (helpers : List Helper) where
 
   -- ---- what a verified program keeps
 
-  module _ (code : List Placed) (claims states : Claims) (kept : List (ℕ × Abstract))
+  module _ (code : List Placed) (states : Claims) (kept : List (ℕ × Abstract))
       (regions : List (Option Region × Option Region)) (all : List Decoded)
-      (is : states ≡ settled_claims helpers code claims)
-      (kept_is : kept ≡ kept_states code states) where
-    pub kept_view : derived_claims helpers code (pair_at kept) ≡ settled_claims helpers code claims
-    kept_view = ap (λ (pairs : List (ℕ × Abstract)). derived_claims helpers code (pair_at pairs))
-        (kept_is ∙ ap (λ (ns : Claims). kept_states code ns) is) ∙ settled_again code claims
+      (settled : settled_claims helpers code states ≡ states) (kept_is : kept ≡ kept_states code states) where
+    pub kept_view : derived_claims helpers code (pair_at kept) ≡ states
+    kept_view =
+        ap (λ (pairs : List (ℕ × Abstract)). derived_claims helpers code (pair_at pairs)) kept_is
+        ∙ derived_same code (at_targets code states) (pair_at (kept_states code states))
+        (λ k under. pair_kept code states k)
+        ∙ settled
 
     pub verified_from : AreRegions code states regions → AreDecoded code states all → (needs : Bool) →
-        (IsTrue needs ↔ NeedsStack code states) → IsAnnotation helpers code claims →
-        AreDerivedProper helpers code (at_targets code claims) (length code) →
+        (IsTrue needs ↔ NeedsStack code states) → IsAnnotation helpers code states →
         IsVerified helpers code kept regions all needs
-    verified_from regions_are decoded_are needs needs_are annotation proper =
-        let same : derived_claims helpers code (pair_at kept) ≡ states = kept_view ∙ sym is in
+    verified_from regions_are decoded_are needs needs_are annotation =
         let P : Claims → Type 0 = λ ns. IsAnnotation helpers code ns in
         let Q : Claims → Type 0 = λ ns. AreRegions code ns regions in
         let F : Claims → Type 0 = λ ns. AreDecoded code ns all in
         let R : Claims → Type 0 = λ ns. kept ≡ kept_states code ns in
         record {
-          annotation = subst P (sym kept_view) (settled_annotation code claims annotation proper);
-          regions_are = subst Q (sym same) regions_are;
-          decoded_are = subst F (sym same) decoded_are;
-          kept_are = subst R (sym same) kept_is;
-          needs_are = subst (λ (ns : Claims). IsTrue needs ↔ NeedsStack code ns) (sym same) needs_are;
+          annotation = subst P (sym kept_view) annotation;
+          regions_are = subst Q (sym kept_view) regions_are;
+          decoded_are = subst F (sym kept_view) decoded_are;
+          kept_are = subst R (sym kept_view) kept_is;
+          needs_are = subst (λ (ns : Claims). IsTrue needs ↔ NeedsStack code ns) (sym kept_view) needs_are;
         }
 
   -- the refusal of states with numbers that rise is that of the list that follows from them

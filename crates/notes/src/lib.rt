@@ -16,5 +16,6 @@ mod targets;
 mod verified;
 
 pub use lookup::claim_at;
-pub use verified::{Verified, check, check_sparse};
+pub use shape::failed_shape;
+pub use verified::{Verified, check, check_sparse, keep_joined};
 pub use verifier_spec::{Check, VerifyFault};

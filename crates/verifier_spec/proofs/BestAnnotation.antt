@@ -92,7 +92,7 @@ last_is_other : (holds : Bool) (kind : Check) → holds ≡ true → first_of ((
 last_is_other holds kind h e = cc
 
 -- the entry state is the first joined state
-start_covered : (helpers : List Helper) (code : List Placed) → 0 < length code →
+pub start_covered : (helpers : List Helper) (code : List Placed) → 0 < length code →
     ((length (joined_states helpers code) == length code)
     && is_covered entry_state (claim_at (joined_states helpers code) 0)) ≡ true
 unfolding known_after

@@ -1,6 +1,6 @@
 use Rattle.machine_spec.specs.declared.instruction.Region.TheVariants as region
 use Rattle.verifier_spec.proofs.Proper.{with_lengths_proper}
-use Rattle.abstract_regs.proofs.transfer.with_lengths.Goals as goal
+use Rattle.abstract_regs.proofs.transfer.set_lengths.Goals as goal
 
 pub returns-in-Key-clause-proper : goal.returns-in-Key-clause-proper
 returns-in-Key-clause-proper c =
