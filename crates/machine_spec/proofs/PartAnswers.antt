@@ -1,13 +1,13 @@
 -- The greatest numbers that the helpers over parts of a record answer.
-use Rattle.std.proofs.Common.{◌≡◌, ℕ, zero, suc, ◌+◌, ◌*◌, ◌-◌, ◌≤◌, ◌<◌, ◌^◌, Bool, true, false, if◌then◌else◌, List}
+use Rattle.std.proofs.Common.{◌≡◌, ℕ, zero, suc, ◌+◌, ◌-◌, ◌≤◌, ◌<◌, ◌^◌, Bool, true, if◌then◌else◌, List}
 use Rattle.std.proofs.Common.{[], ◌∷◌, length, Option, Some, None, refl, sym, subst, ◌∙◌, arith, unwrap_or}
 use Rattle.std.proofs.Common.{option_map, ⊎_elim}
 use Rattle.std.specs.Prelude.{slice_get, nat_lt}
 use Rattle.std.specs.{Char.is_ascii_digit, Char.digit_value, List.list_all, Str.Parse.digits_value, Str.Parse.AllDigits}
-use Rattle.std.specs.{Option.option_map_or, List.position_or_len}
+use Rattle.std.specs.{Option.option_map_or}
 use Rattle.std.proofs.lemmas.Bool.{and_parts, leb-true, ltb-true, cases_Bool, cond-true, cond-false, cond_both}
 use Rattle.std.proofs.lemmas.{Int.Digits.digits_value-lt, Option.same_Some}
-use Rattle.wire_spec.specs.declared.limits.TheConstants.{MAX_KEY, MAX_VALUE, MAX_HEADER_KEY, MAX_HEADER_VALUE}
+use Rattle.wire_spec.specs.declared.limits.TheConstants.{MAX_KEY, MAX_VALUE}
 use Rattle.wire_spec.specs.declared.limits.TheConstants.{MAX_HEADERS}
 use Rattle.wire_spec.specs.declared.{record.Header.Header, record.Record.Record}
 use Rattle.machine_spec.specs.declared.part.Part.{Part}

@@ -1,13 +1,15 @@
 -- Runs of small programs that call the helpers over parts of a record, worked out by computing.
 use Rattle.std.proofs.Common.{◌≡◌, ℕ, List, [], ◌∷◌, ◌++◌, map, Option, Some, None, refl, pos}
+use Rattle.std.specs.{Prelude.replicate, Str.is_utf8, Str.chars, Char.encode_utf8}
 use Rattle.machine_spec.specs.declared.{helper.Table.TheVariants.Three, outcome.Outcome.Outcome}
+use Rattle.machine_spec.specs.declared.outcome.Emission.{Emission}
 use Rattle.machine_spec.specs.declared.outcome.Outcome.TheVariants.{Kept, Rejected}
 use Rattle.wire_spec.specs.declared.record.Header.{Header}
 use Rattle.machine_spec.specs.{Opcodes.template_of, Opcodes.is_left_out, Traps.trap_at}
 use Rattle.machine_spec.specs.Image.{program_of, read_slot, read_fields, first_slots}
-use Rattle.machine_spec.specs.Machine.{Input, state_after, helper_among}
+use Rattle.machine_spec.specs.Machine.{Input, state_after, helper_among, header_refusal}
 use Rattle.machine_spec.specs.{Places.least_place, Hashes.murmur2, Hashes.after_bytes}
-use Rattle.machine_spec.proofs.Runs.{End, Out, run, small, move_to, call, exit, at_end, to_end, load_64}
+use Rattle.machine_spec.proofs.Runs.{End, Out, run, small, move, move_to, call, exit, at_end, to_end, load_64}
 
 -- the headers `h`, which is `x`, and `i`, which is null
 abbrev headers : List Header
@@ -57,6 +59,23 @@ abbrev changed : ℕ → ℕ → List ℕ
 changed place count =
     with_byte 4 98 ++ move_to 5 1 ++ move_to 1 0 ++ move_to 2 place ++ move_to 3 count ++ call 21 ++ exit
 
+-- The header whose key and value are in these registers is added, and output 0 gets a record. At the entry r1 and r2
+-- name the record's value, r3 and r4 its key.
+abbrev added : List ℕ → List ℕ
+added emits_one = call 22 ++ move_to 1 0 ++ emits_one ++ exit
+
+-- the header of the value and the key `k`
+abbrev added_header : List ℕ → Header
+added_header key = record { key = key; value = Some (107 ∷ []) }
+
+-- a record to output 0
+abbrev emission : Option (List ℕ) → List Header → Emission
+emission value all = record { out = 0; key = Some (107 ∷ []); value = value; headers = all }
+
+-- so many headers with the key `h`
+abbrev many : ℕ → List Header
+many count = replicate count (record { key = 104 ∷ []; value = None })
+
 -- `abab`
 abbrev abab : Option (List ℕ)
 abab = Some (97 ∷ 98 ∷ 97 ∷ 98 ∷ [])
@@ -104,9 +123,55 @@ part_runs =
     ∷ (changed 3 0, three_bytes, Out (emits (7 ∷ 8 ∷ 9 ∷ 98 ∷ [])) 9)
     ∷ (changed 0 0, None, Out (emits (98 ∷ [])) 9)
     ∷ (changed 2 2, three_bytes, Out (Rejected 4) 9)
+    -- the header `a` is added to what is emitted afterwards: the record, a value without headers, a part, a change
+    ∷ (
+      added (call 3),
+      Some (97 ∷ []),
+      Out (Kept (emission (Some (97 ∷ [])) (headers ++ added_header (97 ∷ []) ∷ []) ∷ [])) 4,
+    )
+    ∷ (added (call 6), Some (97 ∷ []), Out (Kept (emission None (added_header (97 ∷ []) ∷ []) ∷ [])) 4)
+    ∷ (
+      call 22 ++ cut 0 1 0 1,
+      Some (97 ∷ []),
+      Out (Kept (emission (Some (107 ∷ [])) (headers ++ added_header (97 ∷ []) ∷ []) ∷ [])) 7,
+    )
+    ∷ (
+      call 22 ++ changed 1 0,
+      Some (97 ∷ []),
+      Out (Kept (emission (Some (97 ∷ 98 ∷ [])) (headers ++ added_header (97 ∷ []) ∷ []) ∷ [])) 10,
+    )
+    -- an earlier emission stays without it
+    ∷ (
+      move 0x16 ++ move 0x27 ++ move 0x38 ++ move 0x49 ++ move_to 1 0 ++ call 6 ++ move 0x61 ++ move 0x72 ++ move 0x83
+          ++ move 0x94 ++ added (call 6),
+      Some (97 ∷ []),
+      Out (Kept (emission None [] ∷ emission None (added_header (97 ∷ []) ∷ []) ∷ [])) 14,
+    )
+    -- a second header stands after the first
+    ∷ (
+      move 0x16 ++ move 0x38 ++ call 22 ++ move 0x61 ++ move_to 2 1 ++ move 0x83 ++ move_to 4 1 ++ added (call 6),
+      Some (97 ∷ []),
+      Out (Kept (emission None (added_header (97 ∷ []) ∷ added_header (97 ∷ []) ∷ []) ∷ [])) 11,
+    )
+    -- a key that is no UTF-8
+    ∷ (call 22 ++ exit, Some (255 ∷ []), Out (Rejected 2) 2)
     ∷ []
 
 part_runs_hold : EndAsSaid part_runs
 unfolding read_slot read_fields template_of is_left_out first_slots trap_at state_after helper_among least_place
-    murmur2 after_bytes
+    murmur2 after_bytes is_utf8 chars encode_utf8
 part_runs_hold = refl
+
+-- Why a header is not added: there are sixteen with the record's own, which comes first; its key is too long; its value
+-- is. The arguments are how many headers the record has and how many were added, and the lengths of a key and a value.
+abbrev refusals : ℕ → ℕ → ℕ → ℕ → ℕ
+refusals own added key value =
+    header_refusal (record { timestamp_delta = pos 0; key = None; value = None; headers = many own })
+    (record { emissions = []; added = many added }) (replicate key 97) (replicate value 0)
+
+refused_as_said : map (λ (row : ℕ × ℕ × ℕ × ℕ). refusals row.0 row.1 row.2 row.3)
+    ((0, 0, 0, 0) ∷ (15, 0, 255, 4096) ∷ (0, 15, 255, 4096) ∷ (16, 0, 1, 1) ∷ (0, 16, 1, 1) ∷ (9, 7, 256, 4097)
+    ∷ (9, 6, 256, 4097) ∷ (9, 6, 255, 4097) ∷ [])
+    ≡ 0 ∷ 0 ∷ 0 ∷ 1 ∷ 1 ∷ 1 ∷ 2 ∷ 3 ∷ []
+unfolding is_utf8 chars encode_utf8
+refused_as_said = refl

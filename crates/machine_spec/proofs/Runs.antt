@@ -22,7 +22,7 @@ pub data End : Type 0 where
 
 -- what a run does at an instruction after n others: it exits, or goes on to the next state
 abbrev turn_at : Bool → (State → Option End) → Input → ℕ → State → Instruction → Option End
-turn_at true on input n s i = Some (Out (outcome_of (s.registers 0) s.emitted) (n + 1))
+turn_at true on input n s i = Some (Out (outcome_of (s.registers 0) s.emitted.emissions) (n + 1))
 turn_at false on input n s i = on (state_after i input s)
 
 -- and at a state, by its trap and its instruction; one without an instruction has a trap, so that no run gets lost
@@ -103,7 +103,7 @@ abbrev pub move_to : ℕ → ℕ → List ℕ
 move_to register number = slot 0xb7 register 0 number
 
 -- mov64: a register gets what another holds
-abbrev move : ℕ → List ℕ
+abbrev pub move : ℕ → List ℕ
 move registers = slot 0xbf registers 0 0
 
 abbrev pub call : ℕ → List ℕ

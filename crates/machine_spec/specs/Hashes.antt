@@ -1,5 +1,5 @@
 -- The hash by which Kafka's clients choose a partition: murmur2 (Austin Appleby) of 32 bits, with the seed 0x9747b28c.
-use Rattle.std.specs.Prelude.{ℕ, ◌+◌, ◌*◌, ◌/◌, ◌%◌, ◌^◌, List, [], ◌∷◌, length, Option, Some, None, bit_xor}
+use Rattle.std.specs.Prelude.{ℕ, ◌*◌, ◌/◌, ◌%◌, ◌^◌, List, [], ◌∷◌, length, Option, Some, None, bit_xor}
 use Rattle.std.specs.Simd.Lanes.{number_l}
 use Rattle.wire_spec.specs.declared.record.Record.{Record}
 use Rattle.machine_spec.specs.declared.part.Part.{Part}

@@ -8,6 +8,7 @@ pub mod Places
 pub mod Numbers
 pub mod Hashes
 pub mod Signatures
+pub mod Yields
 pub mod Machine
 pub mod Traps
 pub mod Meaning

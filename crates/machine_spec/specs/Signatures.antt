@@ -9,7 +9,7 @@ use Rattle.machine_spec.specs.declared.helper.Helper.TheVariants.{LoadValue, Loa
 use Rattle.machine_spec.specs.declared.helper.Helper.TheVariants.{EmitNull, Offset, Timestamp, Partition}
 use Rattle.machine_spec.specs.declared.helper.Helper.TheVariants.{HeaderCount, HeaderKey, HeaderValue, PartLength}
 use Rattle.machine_spec.specs.declared.helper.Helper.TheVariants.{LoadPart, Find, Equals, Decimal, Hash, FindHeader}
-use Rattle.machine_spec.specs.declared.helper.Helper.TheVariants.{EmitPart, EmitChanged}
+use Rattle.machine_spec.specs.declared.helper.Helper.TheVariants.{EmitPart, EmitChanged, AddHeader}
 
 -- a row
 abbrev pub row : ℤ → List Argument → ℕ → Signature
@@ -56,6 +56,8 @@ signature_of EmitPart =
     row (pos 20) (Argument.Number 1 ∷ Argument.Number 2 ∷ Argument.Number 3 ∷ Argument.Number 4 ∷ []) 4
 signature_of EmitChanged =
     row (pos 21) (Argument.Number 1 ∷ Argument.Number 2 ∷ Argument.Number 3 ∷ Argument.Bytes 4 5 ∷ []) 5
+signature_of AddHeader =
+    row (pos 22) (Argument.Bytes 1 2 ∷ Argument.Bytes 3 4 ∷ Argument.Nothing ∷ Argument.Nothing ∷ []) 3
 
 -- the helper of a table with a number
 unfoldable pub helper_among : List Helper → ℤ → Option Helper

@@ -65,6 +65,9 @@ pub enum Helper {
     /// Emits the record with bytes in place of a piece of its value. r1: the output partition, r2 and
     /// r3: where the piece begins and its length, r4 and r5: the address and the length of the bytes.
     EmitChanged,
+    /// Adds a header to what the run emits from then on, after its other headers. r1 and r2: the address and
+    /// the length of its key, r3 and r4: those of its value.
+    AddHeader,
 }
 
 /// The helper table of a program: which helpers it may call.
@@ -74,7 +77,7 @@ pub enum Table {
     One,
     /// Helpers 1 to 12.
     Two,
-    /// Helpers 1 to 21.
+    /// Helpers 1 to 22.
     Three,
 }
 
@@ -104,7 +107,7 @@ pub struct Signature {
 }
 
 /// Every helper, in the order of its numbers.
-pub const HELPERS: [Helper; 21] = [
+pub const HELPERS: [Helper; 22] = [
     Helper::LoadValue,
     Helper::LoadKey,
     Helper::EmitRecord,
@@ -126,6 +129,7 @@ pub const HELPERS: [Helper; 21] = [
     Helper::FindHeader,
     Helper::EmitPart,
     Helper::EmitChanged,
+    Helper::AddHeader,
 ];
 
 /// The helpers of table one.
@@ -252,6 +256,14 @@ const WITH_CHANGE: [Argument; 4] = [
     Argument::Bytes(4, 5),
 ];
 
+/// A helper takes the bytes of a header's key and of its value.
+const WITH_HEADER: [Argument; 4] = [
+    Argument::Bytes(1, 2),
+    Argument::Bytes(3, 4),
+    Argument::Nothing,
+    Argument::Nothing,
+];
+
 /// A row: the number that names a helper, its arguments, and the greatest number that it answers.
 fn row(number: i32, arguments: [Argument; 4], greatest: u64) -> Signature
     ensures { result ≡ row number arguments greatest }
@@ -310,6 +322,7 @@ impl Helper {
             Helper::FindHeader => row(19, ONE_TEXT, MAX_HEADERS as u64),
             Helper::EmitPart => row(20, FOUR_NUMBERS, 4),
             Helper::EmitChanged => row(21, WITH_CHANGE, 5),
+            Helper::AddHeader => row(22, WITH_HEADER, 3),
         }
     }
 }

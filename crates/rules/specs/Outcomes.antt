@@ -7,7 +7,7 @@ use Rattle.wire_spec.specs.declared.{record.Header.Header, record.Record.Record}
 use Rattle.machine_spec.specs.declared.{outcome.Emission.Emission, outcome.Outcome.Outcome}
 use Rattle.machine_spec.specs.declared.outcome.Outcome.TheVariants.{Kept, Rejected}
 use Rattle.machine_spec.specs.{Machine.Input, Machine.bytes_of, Machine.emit_code, Machine.whole_record}
-use Rattle.machine_spec.specs.{Machine.bare_record, Hashes.hash_of}
+use Rattle.machine_spec.specs.{Machine.no_yield, Machine.bare_record, Hashes.hash_of}
 use Rattle.rules.specs.declared.{rule.Part.Part, rule.Cut.Cut, rule.Output.Output, rule.AddedHeader.AddedHeader}
 use Rattle.rules.specs.declared.rule.Action.{Action}
 use Rattle.rules.specs.declared.rule.Output.TheVariants as output
@@ -22,12 +22,12 @@ unless_refused code outcome = if code == 0 then outcome else Rejected code
 
 -- the record is kept with one emission, unless the machine refuses that by its emit code
 abbrev pub outcome_of_emission : Input → Emission → Outcome
-outcome_of_emission input emission = unless_refused (emit_code input [] emission) (Kept (emission ∷ []))
+outcome_of_emission input emission = unless_refused (emit_code input no_yield emission) (Kept (emission ∷ []))
 
 -- the same with these bytes as its value; where they can't be had, the code of that comes after the emit codes
 abbrev pub outcome_with_value : Input → Emission → Result (List ℕ) ℕ → Outcome
 outcome_with_value input emission (Ok value) = outcome_of_emission input (record emission { value = Some value })
-outcome_with_value input emission (Err code) = unless_refused (emit_code input [] emission) (Rejected code)
+outcome_with_value input emission (Err code) = unless_refused (emit_code input no_yield emission) (Rejected code)
 
 -- ---- added headers
 
