@@ -24,7 +24,7 @@ module _ (program : Program) (input : Input) (s : State) where
       ends_only program input (end.Trap reported) n (record { last = s; chain = chain; trap = trap })
 
   pub ends_out : (n : ℕ) (outcome : Outcome) → Reaches program input n s → IsExit program input s →
-      outcome ≡ outcome_of (s.registers 0) s.emitted → EndsOnlyIn program input (end.Out outcome) (n + 1)
+      outcome ≡ outcome_of (s.registers 0) s.emitted.emissions → EndsOnlyIn program input (end.Out outcome) (n + 1)
   ends_out n outcome chain at is =
       ends_only program input (end.Out outcome) (n + 1) (record {
         steps = n;

@@ -1,7 +1,7 @@
 -- What a run of the plain machine has at hand, and its state, as the definitions of the machine name them.
 use Rattle.machine_spec.specs.{Image.Program, Image.program_of, Machine.Input, Machine.State}
 use Rattle.wire_spec.specs.declared.record.Record.{Record}
-use Rattle.helpers.specs.Emitted.{emissions_in}
+use Rattle.helpers.specs.Emitted.{yield_in}
 use Rattle.bpf_machine.specs.{declared.memory.Run.Run, declared.machine.Machine.Machine, Views.registers_of}
 use Rattle.bpf_machine.specs.Views.{stack_of}
 
@@ -19,7 +19,7 @@ state_in given m = record {
   slot = m.slot;
   registers = registers_of m.registers;
   stack = stack_of m.stack;
-  emitted = emissions_in given m.emitter;
+  emitted = yield_in given m.emitter;
 }
 
 -- the same of a run

@@ -4,7 +4,7 @@ ghost use Rattle.std.specs.List.{list_any};
 ghost use Rattle.machine_spec.specs.Machine as definitions;
 ghost use Rattle.machine_spec.specs.Machine.{bytes_at, named_access, loads, fills, signature_of, effect_of};
 ghost use Rattle.machine_spec.specs.Traps.{is_wrong_room, is_wrong_argument};
-ghost use Rattle.helpers.specs.Emitted.{emissions_in};
+ghost use Rattle.helpers.specs.Emitted.{yield_in};
 ghost use Rattle.bpf_machine.specs.Views.{registers_of, stack_of};
 ghost use Rattle.bpf_machine.specs.States.{input_of, state_of};
 
@@ -35,7 +35,7 @@ impl Machine {
     fn emit_value(&mut self, run: &Run) -> Result<u64, AllocError>
         ensures answer { IfOk result (λ answer. answer
             ≡ (effect_of Helper.EmitValue (input_of run.now) (state_of run.now self.old)).answer) }
-        ensures emitted { OnOk result (emissions_in run.now.given.now self.new.emitter
+        ensures emitted { OnOk result (yield_in run.now.given.now self.new.emitter
             ≡ (effect_of Helper.EmitValue (input_of run.now) (state_of run.now self.old)).emitted) }
         ensures stack { self.new.stack ≡ self.old.stack }
         ensures slot { self.new.slot ≡ self.old.slot }
@@ -52,7 +52,7 @@ impl Machine {
     fn emit(&mut self, run: &Run) -> Result<u64, AllocError>
         ensures answer { IfOk result (λ answer. answer
             ≡ (effect_of Helper.Emit (input_of run.now) (state_of run.now self.old)).answer) }
-        ensures emitted { OnOk result (emissions_in run.now.given.now self.new.emitter
+        ensures emitted { OnOk result (yield_in run.now.given.now self.new.emitter
             ≡ (effect_of Helper.Emit (input_of run.now) (state_of run.now self.old)).emitted) }
         ensures stack { self.new.stack ≡ self.old.stack }
         ensures slot { self.new.slot ≡ self.old.slot }
@@ -110,7 +110,7 @@ impl Machine {
             (signature_of helper).arguments ≡ false }
         ensures answer { IfOk result (λ answer. answer
             ≡ (effect_of helper (input_of run.now) (state_of run.now self.old)).answer) }
-        ensures emitted { OnOk result (emissions_in run.now.given.now self.new.emitter
+        ensures emitted { OnOk result (yield_in run.now.given.now self.new.emitter
             ≡ (effect_of helper (input_of run.now) (state_of run.now self.old)).emitted) }
         ensures stack { OnOk result (stack_of self.new.stack
             ≡ (effect_of helper (input_of run.now) (state_of run.now self.old)).stack) }
@@ -152,6 +152,7 @@ impl Machine {
             Helper::FindHeader => self.find_header(run),
             Helper::EmitPart => self.emit_part(run),
             Helper::EmitChanged => self.emit_changed(run),
+            Helper::AddHeader => self.add_header(run),
         }
     }
 }

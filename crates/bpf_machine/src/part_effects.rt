@@ -3,7 +3,7 @@ ghost use Rattle.std.specs.Prelude.{◌≡◌, IfOk, OnOk};
 ghost use Rattle.machine_spec.specs.Machine as definitions;
 ghost use Rattle.machine_spec.specs.Machine.{effect_of};
 ghost use Rattle.machine_spec.specs.Parts.{part_numbered};
-ghost use Rattle.helpers.specs.Emitted.{emissions_in};
+ghost use Rattle.helpers.specs.Emitted.{yield_in};
 ghost use Rattle.bpf_machine.specs.Views.{registers_of};
 ghost use Rattle.bpf_machine.specs.States.{input_of, state_of};
 
@@ -72,7 +72,7 @@ impl Machine {
     pub(crate) fn emit_part(&mut self, run: &Run) -> Result<u64, AllocError>
         ensures answer { IfOk result (λ answer. answer
             ≡ (effect_of Helper.EmitPart (input_of run.now) (state_of run.now self.old)).answer) }
-        ensures emitted { OnOk result (emissions_in run.now.given.now self.new.emitter
+        ensures emitted { OnOk result (yield_in run.now.given.now self.new.emitter
             ≡ (effect_of Helper.EmitPart (input_of run.now) (state_of run.now self.old)).emitted) }
         ensures stack { self.new.stack ≡ self.old.stack }
         ensures slot { self.new.slot ≡ self.old.slot }
@@ -92,7 +92,7 @@ impl Machine {
     pub(crate) fn emit_changed(&mut self, run: &Run) -> Result<u64, AllocError>
         ensures answer { IfOk result (λ answer. answer
             ≡ (effect_of Helper.EmitChanged (input_of run.now) (state_of run.now self.old)).answer) }
-        ensures emitted { OnOk result (emissions_in run.now.given.now self.new.emitter
+        ensures emitted { OnOk result (yield_in run.now.given.now self.new.emitter
             ≡ (effect_of Helper.EmitChanged (input_of run.now) (state_of run.now self.old)).emitted) }
         ensures stack { self.new.stack ≡ self.old.stack }
         ensures slot { self.new.slot ≡ self.old.slot }
@@ -107,5 +107,21 @@ impl Machine {
         };
         self.emitter
             .emit_changed(run.alloc, run.given, run.place, out, change)
+    }
+    /// Adds the header whose key r1 and r2 name, and whose value r3 and r4 name.
+    pub(crate) fn add_header(&mut self, run: &Run) -> Result<u64, AllocError>
+        ensures answer { IfOk result (λ answer. answer
+            ≡ (effect_of Helper.AddHeader (input_of run.now) (state_of run.now self.old)).answer) }
+        ensures emitted { OnOk result (yield_in run.now.given.now self.new.emitter
+            ≡ (effect_of Helper.AddHeader (input_of run.now) (state_of run.now self.old)).emitted) }
+        ensures stack { self.new.stack ≡ self.old.stack }
+        ensures slot { self.new.slot ≡ self.old.slot }
+        ensures registers { self.new.registers ≡ self.old.registers }
+    {
+        let key = self.bytes_at(run, 1, 2)?;
+        let value = self.bytes_at(run, 3, 4)?;
+        let key = Piece::Stack(&key);
+        let value = Piece::Stack(&value);
+        self.emitter.add_header(run.alloc, run.given, key, value)
     }
 }

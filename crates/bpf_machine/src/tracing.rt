@@ -39,7 +39,7 @@ pub enum Advance {
 /// What r0 at the exit makes of what was emitted for a record. It fails only where memory runs out.
 fn outcome_of(run: &Run, answer: Tagged, machine: Machine) -> Result<Outcome, AllocError>
     ensures { IfOk result (λ outcome. outcome
-        ≡ outcome_of (value_of answer) (emissions_in run.now.given.now machine.emitter)) }
+        ≡ outcome_of (value_of answer) (emissions_in run.now.given.now machine.emitter.list)) }
 {
     let Machine { emitter, .. } = machine;
     let mut emitted = emitter.into_emitted();

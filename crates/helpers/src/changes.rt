@@ -1,32 +1,22 @@
 //! Emissions of the record with another value: a piece of one of its parts, or its value with a change.
 ghost use Rattle.std.specs.Prelude.{◌≡◌, ◌++◌, ◌∷◌, ◌+◌, ◌<◌, ◌≤◌, ◌-◌, [], length, take, drop, IfOk, OnOk, OnErr, Some};
-ghost use Rattle.machine_spec.specs.Machine.{bytes_of, code_unless, emitted_unless, cut_refusal, cut_record, changed_bytes, change_refusal, changed_record};
+ghost use Rattle.machine_spec.specs.Machine.{bytes_of, with_emission, code_unless, emitted_unless, cut_refusal, cut_record, changed_bytes, change_refusal, changed_record};
 ghost use Rattle.wire_spec.specs.declared.limits.TheConstants.{MAX_VALUE};
 ghost use Rattle.machine_spec.specs.Parts.{part_bytes};
-ghost use Rattle.machine_spec.specs.Places.{cut_of};
-ghost use Rattle.helpers.specs.declared.emitted.Emitted.TheVariants.{Made};
-ghost use Rattle.helpers.specs.Emitted.{emissions_in};
+ghost use Rattle.helpers.specs.Emitted.{yield_in};
 ghost use Rattle.helpers.specs.Pieces.{piece_bytes, IsPiece};
 
-use crate::emitted::{Emitted, share_some};
+use crate::emitted::{Emitted, Excerpt, share_some};
 use crate::emitter::{Emitter, code_of};
 use crate::parts::{text, text_length};
 use crate::pieces::Piece;
 use crate::room::has_part;
+use crate::slices::PartSlice;
 use bytes::Bytes;
 use kafka_record::RecordRef;
-use machine_spec::{Emission, MAX_EMISSIONS, Part, Place};
-use record_parts::part_bytes;
+use machine_spec::{Emission, MAX_EMISSIONS, Place};
 use std::alloc::{AllocError, Global};
 use wire_spec::MAX_VALUE;
-
-/// So many bytes of a part of the record, from a place on.
-#[derive(Clone, Copy, Debug)]
-pub struct PartSlice {
-    pub part: Part,
-    pub place: u64,
-    pub count: u64,
-}
 
 /// A change of the record's value: so many bytes from a place on become others.
 #[derive(Clone, Copy, Debug)]
@@ -41,27 +31,6 @@ const LACKS_BYTES: u64 = 4;
 
 /// The emit code where the value gets longer than 1,048,576 bytes.
 const TOO_LONG: u64 = 5;
-
-/// The bytes of a piece of a part, if all of them are there. Those of the key and the value share the record's
-/// buffer, those of a header are copied. It fails only where memory runs out.
-fn cut(alloc: Global, given: &RecordRef, slice: &PartSlice) -> Result<Option<Bytes>, AllocError>
-    ensures { IfOk result (λ cut. cut ≡ cut_of (part_bytes given.now slice.now.part) slice.now.place slice.now.count) }
-{
-    let whole = part_bytes(given, slice.part);
-    if !has_part(whole, slice.place, slice.count) {
-        return Ok(None);
-    }
-    let start = slice.place as usize;
-    let end = start + slice.count as usize;
-    let cut = match slice.part {
-        Part::Value => given.cut_value(start, end)?,
-        Part::Key => given.cut_key(start, end)?,
-        Part::HeaderKey(_) | Part::HeaderValue(_) => {
-            Bytes::copy_from_slice(alloc, &whole[start..end])?
-        }
-    };
-    Ok(Some(cut))
-}
 
 /// Why a change of a value is not emitted: 4, the value lacks the bytes; 5, it gets too long; else 0.
 fn refusal_of(value: &[u8], place: u64, count: u64, others: &[u8]) -> u64
@@ -108,25 +77,30 @@ impl Emitter {
         out: usize,
         value: Bytes,
     ) -> Result<u64, AllocError>
-        requires { length self.old < MAX_EMISSIONS }
+        requires { length self.old.list < MAX_EMISSIONS }
         ensures answer { IfOk result (λ code. code ≡ 0) }
-        ensures emitted { OnOk result (self.new ≡ self.old ++ Made (record {
-          out = out;
-          key = given.now.key;
-          value = Some value;
-          headers = given.now.headers;
-        }) ∷ []) }
+        ensures emitted { OnOk result (yield_in given.now self.new
+            ≡ with_emission (yield_in given.now self.old) (record {
+              out = out;
+              key = given.now.key;
+              value = Some value;
+              headers = given.now.headers;
+            })) }
         ensures err { OnErr result (self.new ≡ self.old) }
     {
         self.begin()?;
         let key = given.share_key()?;
         let headers = share_some(alloc, &given.headers())?;
-        self.add(Emitted::Made(Emission {
-            out,
-            key,
-            value: Some(value),
-            headers,
-        }))
+        self.add(
+            alloc,
+            given,
+            Emitted::Made(Emission {
+                out,
+                key,
+                value: Some(value),
+                headers,
+            }),
+        )
     }
 
     /// Emits the record's key and headers with a piece of one of its parts as the value. Returns the emit code:
@@ -141,12 +115,12 @@ impl Emitter {
         slice: &PartSlice,
     ) -> Result<u64, AllocError>
         ensures answer { IfOk result (λ code. code
-            ≡ code_unless (record { given = given.now; place = place.now }) (emissions_in given.now self.old)
+            ≡ code_unless (record { given = given.now; place = place.now }) (yield_in given.now self.old)
             (cut_refusal (part_bytes given.now slice.now.part) slice.now.place slice.now.count)
             (cut_record (record { given = given.now; place = place.now }) out (part_bytes given.now slice.now.part)
             slice.now.place slice.now.count)) }
-        ensures emitted { OnOk result (emissions_in given.now self.new
-            ≡ emitted_unless (record { given = given.now; place = place.now }) (emissions_in given.now self.old)
+        ensures emitted { OnOk result (yield_in given.now self.new
+            ≡ emitted_unless (record { given = given.now; place = place.now }) (yield_in given.now self.old)
             (cut_refusal (part_bytes given.now slice.now.part) slice.now.place slice.now.count)
             (cut_record (record { given = given.now; place = place.now }) out (part_bytes given.now slice.now.part)
             slice.now.place slice.now.count)) }
@@ -156,9 +130,14 @@ impl Emitter {
         if code != 0 {
             return Ok(code);
         }
-        match cut(alloc, given, slice)? {
-            Some(value) => self.add_changed(alloc, given, out as usize, value),
-            None => Ok(LACKS_BYTES),
+        if slice.is_in(given) {
+            let excerpt = Excerpt {
+                out: out as usize,
+                slice: Some(*slice),
+            };
+            self.add_excerpt(alloc, given, excerpt)
+        } else {
+            Ok(LACKS_BYTES)
         }
     }
 
@@ -177,12 +156,12 @@ impl Emitter {
     ) -> Result<u64, AllocError>
         requires { IsPiece given.now change.bytes }
         ensures answer { IfOk result (λ code. code
-            ≡ code_unless (record { given = given.now; place = place.now }) (emissions_in given.now self.old)
+            ≡ code_unless (record { given = given.now; place = place.now }) (yield_in given.now self.old)
             (change_refusal (bytes_of given.now.value) change.entry.place change.entry.count (piece_bytes given.now change.entry.bytes))
             (changed_record (record { given = given.now; place = place.now }) out change.entry.place change.entry.count
             (piece_bytes given.now change.entry.bytes))) }
-        ensures emitted { OnOk result (emissions_in given.now self.new
-            ≡ emitted_unless (record { given = given.now; place = place.now }) (emissions_in given.now self.old)
+        ensures emitted { OnOk result (yield_in given.now self.new
+            ≡ emitted_unless (record { given = given.now; place = place.now }) (yield_in given.now self.old)
             (change_refusal (bytes_of given.now.value) change.entry.place change.entry.count (piece_bytes given.now change.entry.bytes))
             (changed_record (record { given = given.now; place = place.now }) out change.entry.place change.entry.count
             (piece_bytes given.now change.entry.bytes))) }

@@ -1,18 +1,28 @@
-//! What a program emitted for a record: a mark where it is the record as it is.
+//! What a program emitted for a record: a mark where the record has all parts of it.
 ghost use Rattle.std.specs.Prelude.{◌≡◌, ◌++◌, [], IfOk, OnOk};
 ghost use Rattle.helpers.specs.Emitted.{emission_in, emissions_in};
 
+use crate::slices::{PartSlice, share_value};
 use kafka_record::{HeadersRef, RecordRef};
 use machine_spec::{Emission, Emissions};
 use std::alloc::{AllocError, Global};
 use std::marker::Model;
 use wire_spec::Headers;
 
+/// An emission whose parts are the record's: its key, its headers, and as value its own or a slice of one of its parts.
+#[derive(Clone, Copy, Debug)]
+pub struct Excerpt {
+    /// The output partition.
+    pub out: usize,
+    /// `None` for the record as it is.
+    pub slice: Option<PartSlice>,
+}
+
 /// What a program emitted for a record.
 #[derive(Drop)]
 pub enum Emitted {
-    /// The record as it is, with its headers, to this output partition.
-    Given { out: usize },
+    /// An excerpt of the record.
+    Cut(Excerpt),
     /// A record that the program made.
     Made(Emission),
 }
@@ -61,17 +71,21 @@ pub(crate) fn share_some(alloc: Global, headers: &HeadersRef) -> Result<Headers,
 }
 
 impl Emitted {
-    /// The emission of it for this record: another owner of the record's parts, where it is the record as it
-    /// is. It fails only where memory runs out.
+    /// The emission of it for this record: another owner of the record's parts, where it has those. It fails only
+    /// where memory runs out.
     #[inline(always)]
-    fn into_emission(self, alloc: Global, given: &RecordRef) -> Result<Emission, AllocError>
+    pub(crate) fn into_emission(
+        self,
+        alloc: Global,
+        given: &RecordRef,
+    ) -> Result<Emission, AllocError>
         ensures { IfOk result (λ emission. emission ≡ emission_in given.now self) }
     {
         match self {
-            Emitted::Given { out } => Ok(Emission {
-                out,
+            Emitted::Cut(excerpt) => Ok(Emission {
+                out: excerpt.out,
                 key: given.share_key()?,
-                value: given.share_value()?,
+                value: share_value(alloc, given, &excerpt.slice)?,
                 headers: share_some(alloc, &given.headers())?,
             }),
             Emitted::Made(emission) => Ok(emission),

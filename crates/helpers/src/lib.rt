@@ -2,6 +2,7 @@
 //! programs.
 #![tactic(auto)]
 
+mod added;
 mod changes;
 mod emitted;
 mod emitter;
@@ -10,9 +11,10 @@ mod parts;
 mod pieces;
 mod place;
 mod room;
+mod slices;
 
-pub use changes::{PartSlice, ValueChange};
-pub use emitted::{Emitted, EmittedList};
+pub use changes::ValueChange;
+pub use emitted::{Emitted, EmittedList, Excerpt};
 pub use emitter::Emitter;
 pub use headers::{HeaderPart, header_count, header_key, header_value};
 pub use kafka_record::{NullableBytes, RecordRef};
@@ -21,3 +23,4 @@ pub use parts::{null_flags, text, text_length};
 pub use pieces::Piece;
 pub use place::{offset, partition, timestamp};
 pub use room::{fill_room, load_part};
+pub use slices::{PartSlice, share_value};

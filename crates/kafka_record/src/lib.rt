@@ -18,7 +18,7 @@ mod writing;
 pub use by_ref::RecordRef;
 pub use fault::RecordFault;
 pub use headers::{HeaderRef, HeadersRef};
-pub use limits::fits;
+pub use limits::{fits, is_text};
 pub use nullable::NullableBytes;
 pub use reading::{one_spelling, read};
 pub use sharing::{share, share_bytes, share_headers};

@@ -49,5 +49,5 @@ returns-in-Ended c =
     let exit = rw c.in-Ended.is at c.in_ok-advance.ensures in
     ends_out _ _ _ _ _ c.steps.invariant exit.0
     (c.in_ok-outcome-in-Ended.ensures ∙ ap (λ (v : Value). outcome_of v
-    (emissions_in c.args.given.now c.advance.new.self.emitter)) c.get-answer.ensures
-    ∙ ap (λ (u : State). outcome_of (u.registers 0) u.emitted) exit.1)
+    (emissions_in c.args.given.now c.advance.new.self.emitter.list)) c.get-answer.ensures
+    ∙ ap (λ (u : State). outcome_of (u.registers 0) u.emitted.emissions) exit.1)
