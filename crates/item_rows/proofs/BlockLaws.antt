@@ -10,7 +10,8 @@ use Rattle.wire_spec.specs.declared.{limits.TheConstants.TIMESTAMP_END, record.R
 use Rattle.machine_spec.specs.declared.{outcome.Outcome.Outcome, outcome.Place.Place}
 use Rattle.machine_spec.specs.{Image.Program, Meaning.IsPlace}
 use Rattle.helpers.specs.declared.emitted.Emitted.{Emitted}
-use Rattle.helpers.specs.declared.emitted.Emitted.TheVariants.{Given, Made}
+use Rattle.helpers.specs.declared.emitted.Emitted.TheVariants.{Cut, Made}
+use Rattle.helpers.specs.declared.emitted.Excerpt.{Excerpt}
 use Rattle.exec.specs.{declared.ending.Ending.Ending, Abreast.AreGiven, Runs.no_record}
 use Rattle.exec.specs.declared.ending.Ending.TheVariants.{Kept, Rejected}
 use Rattle.exec.specs.Endings.{Ended, kept_alone, outcome_in, outcomes_of}
@@ -404,13 +405,13 @@ is_part records done count le =
       more = ap (take (done + count)) (sym whole) ∙ take_at (front ++ here) later (done + count) both;
     }
 
--- ---- a record that is kept as it is
+-- ---- a record of which one excerpt is kept
 
 -- what it emitted
-pub alone_is : (ending : Ending) (emitted : List Emitted) (out : ℕ) → Some out ≡ kept_alone ending emitted →
-    (ending ≡ Kept) × (emitted ≡ Given out ∷ [])
-alone_is Kept [] out is = absurd cc
-alone_is Kept (Made emission ∷ rest) out is = absurd cc
-alone_is Kept (Given other ∷ []) out is = (refl, ap (λ (o : ℕ). Given o ∷ []) (sym (same_Some out other is)))
-alone_is Kept (Given other ∷ more ∷ rest) out is = absurd cc
-alone_is (Rejected code) emitted out is = absurd cc
+pub alone_is : (ending : Ending) (emitted : List Emitted) (one : Excerpt) → Some one ≡ kept_alone ending emitted →
+    (ending ≡ Kept) × (emitted ≡ Cut one ∷ [])
+alone_is Kept [] one is = absurd cc
+alone_is Kept (Made emission ∷ rest) one is = absurd cc
+alone_is Kept (Cut other ∷ []) one is = (refl, ap (λ (e : Excerpt). Cut e ∷ []) (sym (same_Some one other is)))
+alone_is Kept (Cut other ∷ more ∷ rest) one is = absurd cc
+alone_is (Rejected code) emitted one is = absurd cc

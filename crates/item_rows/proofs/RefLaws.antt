@@ -1,50 +1,53 @@
 -- Rows whose parts stay where they are: one more of them.
-use Rattle.std.proofs.Common.{◌≡◌, ℕ, zero, suc, ◌+◌, ◌<◌, ◌≤◌, List, [], ◌∷◌, ◌++◌, length, get_or, slice_get, Option}
-use Rattle.std.proofs.Common.{Some, None, take, refl, sym, ap, subst, ◌∙◌, arith}
+use Rattle.std.proofs.Common.{◌≡◌, ℕ, zero, suc, ◌+◌, ◌<◌, ◌≤◌, List, [], ◌∷◌, ◌++◌, length, get_or}
+use Rattle.std.proofs.Common.{slice_get, Option, Some, take, refl, sym, ap, subst, ◌∙◌, arith}
 use Rattle.std.proofs.lemmas.Option.{get_or_from_slice_get}
 use Rattle.std.proofs.lemmas.List.{map-append, get_or_append_left, get_or-append-add, length-map, take_more}
 use Rattle.wire_spec.specs.declared.record.Record.{Record}
 use Rattle.machine_spec.specs.declared.outcome.Emission.{Emission}
 use Rattle.log_spec.specs.declared.row.Row.{Row}
-use Rattle.item_rows.specs.declared.refs.Slot.{Slot}
-use Rattle.item_rows.specs.RowParts.{whole, no_emission, parts_in, IsWithin}
+use Rattle.helpers.specs.declared.slices.PartSlice.{PartSlice}
+use Rattle.item_rows.specs.declared.refs.{Slot.Slot, SlotParts.SlotParts}
+use Rattle.item_rows.specs.declared.refs.SlotParts.TheVariants as slot_parts
+use Rattle.item_rows.specs.RowParts.{no_emission, parts_in, IsWithin}
 use Rattle.item_rows.specs.RowRefs.{row_with, row_in, rows_by, AreWithin}
 
 -- parts stay where one more record is made
-parts_same : (made more : List Emission) (given : Record) (number : Option ℕ) → IsWithin (length made) number →
-    parts_in (made ++ more) given number ≡ parts_in made given number
-parts_same made more given None within = refl
-parts_same made more given (Some k) within = get_or_append_left made more no_emission k within
+parts_same : (made more : List Emission) (given : Record) (parts : SlotParts) → IsWithin (length made) parts →
+    parts_in (made ++ more) given parts ≡ parts_in made given parts
+parts_same made more given (slot_parts.Given slice) within = refl
+parts_same made more given (slot_parts.Made k) within = get_or_append_left made more no_emission k within
 
 -- ---- the numbers of made records
 
-within_more : (count more : ℕ) (number : Option ℕ) → count ≤ more → IsWithin count number → IsWithin more number
-within_more count more None le within = tt
-within_more count more (Some k) le within = omega (arith, le, within)
+within_more : (count more : ℕ) (parts : SlotParts) → count ≤ more → IsWithin count parts → IsWithin more parts
+within_more count more (slot_parts.Given slice) le within = tt
+within_more count more (slot_parts.Made k) le within = omega (arith, le, within)
 
 pub within_at : (count : ℕ) (slots : List Slot) (k : ℕ) (slot : Slot) → AreWithin count slots → k < length slots →
-    slot ≡ get_or slots k slot → IsWithin count slot.made
+    slot ≡ get_or slots k slot → IsWithin count slot.parts
 within_at count [] k slot all lt is = absurd (omega arith)
-within_at count (first ∷ slots) zero slot all lt is = subst (λ (s : Slot). IsWithin count s.made) (sym is) all.0
+within_at count (first ∷ slots) zero slot all lt is = subst (λ (s : Slot). IsWithin count s.parts) (sym is) all.0
 within_at count (first ∷ slots) (suc k) slot all lt is = within_at count slots k slot all.1 (omega arith) is
 
 pub all_within : (count more : ℕ) (slots : List Slot) → count ≤ more → AreWithin count slots → AreWithin more slots
 all_within count more [] le all = tt
 all_within count more (slot ∷ slots) le all =
-    (within_more count more slot.made le all.0, all_within count more slots le all.1)
+    (within_more count more slot.parts le all.0, all_within count more slots le all.1)
 
 -- one slot more, and maybe more made records
 pub one_within : (count more : ℕ) (slots : List Slot) (slot : Slot) → count ≤ more → AreWithin count slots →
-    IsWithin more slot.made → AreWithin more (slots ++ slot ∷ [])
+    IsWithin more slot.parts → AreWithin more (slots ++ slot ∷ [])
 one_within count more [] slot le all within = (within, tt)
 one_within count more (first ∷ slots) slot le all within =
-    (within_more count more first.made le all.0, one_within count more slots slot le all.1 within)
+    (within_more count more first.parts le all.0, one_within count more slots slot le all.1 within)
 
-pub none_made : (count : ℕ) (number : Option ℕ) → number ≡ None → IsWithin count number
-none_made count number none = subst (IsWithin count) (sym none) tt
+pub none_made : (count : ℕ) (parts : SlotParts) (slice : Option PartSlice) → parts ≡ slot_parts.Given slice →
+    IsWithin count parts
+none_made count parts slice none = subst (IsWithin count) (sym none) tt
 
-pub last_made : (count : ℕ) (number : Option ℕ) → number ≡ Some count → IsWithin (count + 1) number
-last_made count number last =
+pub last_made : (count : ℕ) (parts : SlotParts) → parts ≡ slot_parts.Made count → IsWithin (count + 1) parts
+last_made count parts last =
     let lt : count < count + 1 = omega arith in
     subst (IsWithin (count + 1)) (sym last) lt
 
@@ -62,22 +65,23 @@ rows_same : (made more : List Emission) (slots : List Slot) → AreWithin (lengt
 rows_same made more [] all = refl
 rows_same made more (slot ∷ slots) all =
     ap (λ (e : Emission). row_with slot e ∷ rows_by (made ++ more) slots)
-    (parts_same made more slot.given slot.made all.0)
+    (parts_same made more slot.given slot.parts all.0)
     ∙ ap (λ (rs : List Row). row_in made slot ∷ rs) (rows_same made more slots all.1)
 
--- one row more, of the record as it is
-pub given_more : (made : List Emission) (slots : List Slot) (slot : Slot) (given : Record) (row : Emission → Row) →
-    slot.given ≡ given → slot.made ≡ None → ((e : Emission) → row_with slot e ≡ row e) →
-    rows_by made (slots ++ slot ∷ []) ≡ rows_by made slots ++ row (whole given) ∷ []
-given_more made slots slot given row same none is =
+-- one row more, whose parts the record has
+pub given_more : (made : List Emission) (slots : List Slot) (slot : Slot) (given : Record) (parts : SlotParts)
+    (row : Emission → Row) → slot.given ≡ given → slot.parts ≡ parts → ((e : Emission) → row_with slot e ≡ row e) →
+    rows_by made (slots ++ slot ∷ []) ≡ rows_by made slots ++ row (parts_in made given parts) ∷ []
+given_more made slots slot given parts row same are is =
     map-append (row_in made) slots (slot ∷ [])
     ∙ ap (λ (r : Row). rows_by made slots ++ r ∷ [])
-    (ap (λ (n : Option ℕ). row_with slot (parts_in made slot.given n)) none
-    ∙ (ap (λ (g : Record). row_with slot (whole g)) same ∙ is (whole given)))
+    (ap (λ (p : SlotParts). row_with slot (parts_in made slot.given p)) are
+    ∙ (ap (λ (g : Record). row_with slot (parts_in made g parts)) same ∙ is (parts_in made given parts)))
 
 -- one row more, of a record that is made
 pub made_more : (made : List Emission) (slots : List Slot) (slot : Slot) (emission : Emission) (row : Emission → Row) →
-    AreWithin (length made) slots → slot.made ≡ Some (length made) → ((e : Emission) → row_with slot e ≡ row e) →
+    AreWithin (length made) slots → slot.parts ≡ slot_parts.Made (length made) →
+    ((e : Emission) → row_with slot e ≡ row e) →
     rows_by (made ++ emission ∷ []) (slots ++ slot ∷ []) ≡ rows_by made slots ++ row emission ∷ []
 made_more made slots slot emission row all last is =
     let both = made ++ emission ∷ [] in
@@ -88,7 +92,7 @@ made_more made slots slot emission row all last is =
     map-append (row_in both) slots (slot ∷ [])
     ∙ (ap (λ (rs : List Row). rs ++ row_in both slot ∷ []) (rows_same made (emission ∷ []) slots all)
     ∙ ap (λ (r : Row). rows_by made slots ++ r ∷ [])
-    (ap (λ (n : Option ℕ). row_with slot (parts_in both slot.given n)) last
+    (ap (λ (p : SlotParts). row_with slot (parts_in both slot.given p)) last
     ∙ (ap (row_with slot) here ∙ is emission)))
 
 -- ---- the rows of the first slots

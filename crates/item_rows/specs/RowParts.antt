@@ -1,9 +1,11 @@
 -- What has the parts of a row: the record as it was given, or one that a program made.
-use Rattle.std.specs.Prelude.{ℕ, ◌<◌, List, [], get_or, Option, Some, None, ⊤}
+use Rattle.std.specs.Prelude.{ℕ, ◌<◌, List, [], get_or, Option, None, ⊤}
 use Rattle.wire_spec.specs.declared.record.Record.{Record}
 use Rattle.machine_spec.specs.declared.outcome.Emission.{Emission}
 use Rattle.log_spec.specs.declared.row.Row.{Row}
-use Rattle.item_rows.specs.declared.numbers.RowNumbers.{RowNumbers}
+use Rattle.helpers.specs.{declared.slices.PartSlice.PartSlice, Emitted.value_in}
+use Rattle.item_rows.specs.declared.{numbers.RowNumbers.RowNumbers, refs.SlotParts.SlotParts}
+use Rattle.item_rows.specs.declared.refs.SlotParts.TheVariants as slot
 
 -- the row of these numbers with the parts of an emission
 abbrev pub row_by : RowNumbers → Emission → Row
@@ -21,16 +23,20 @@ row_by numbers emission = record {
 abbrev pub whole : Record → Emission
 whole given = record { out = 0; key = given.key; value = given.value; headers = given.headers }
 
+-- the same, with a slice of one of its parts as its value, if there is one here
+abbrev pub excerpt : Record → Option PartSlice → Emission
+excerpt given slice = record { out = 0; key = given.key; value = value_in given slice; headers = given.headers }
+
 -- the emission that no number names
 abbrev pub no_emission : Emission
 no_emission = record { out = 0; key = None; value = None; headers = [] }
 
--- what has a row's parts: the record as it is, or a made one
-abbrev pub parts_in : List Emission → Record → Option ℕ → Emission
-parts_in made given None = whole given
-parts_in made given (Some number) = get_or made number no_emission
+-- what has a row's parts: the record, perhaps with a slice of a part as the value, or a made one
+abbrev pub parts_in : List Emission → Record → SlotParts → Emission
+parts_in made given (slot.Given slice) = excerpt given slice
+parts_in made given (slot.Made number) = get_or made number no_emission
 
 -- a made record's number is below their count
-abbrev pub IsWithin : ℕ → Option ℕ → Type 0
-IsWithin count None = ⊤
-IsWithin count (Some number) = number < count
+abbrev pub IsWithin : ℕ → SlotParts → Type 0
+IsWithin count (slot.Given slice) = ⊤
+IsWithin count (slot.Made number) = number < count

@@ -11,7 +11,7 @@ row_with slot emission = row_by slot.numbers emission
 
 -- the row of a slot
 abbrev pub row_in : List Emission → Slot → Row
-row_in made slot = row_with slot (parts_in made slot.given slot.made)
+row_in made slot = row_with slot (parts_in made slot.given slot.parts)
 
 -- the rows of slots, in order
 abbrev pub rows_by : List Emission → List Slot → List Row
@@ -20,4 +20,4 @@ rows_by made slots = map (row_in made) slots
 -- each slot's made record, where it has one, has a number below their count
 abbrev pub AreWithin : ℕ → List Slot → Type 0
 AreWithin count [] = ⊤
-AreWithin count (slot ∷ slots) = IsWithin count slot.made × AreWithin count slots
+AreWithin count (slot ∷ slots) = IsWithin count slot.parts × AreWithin count slots

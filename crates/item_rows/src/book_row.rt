@@ -2,15 +2,16 @@
 
 ghost use Rattle.std.specs.Prelude.{◌≡◌, ◌<◌, [], length, get_or, IfOk};
 ghost use Rattle.std.specs.Arc.{arc_value};
-ghost use Rattle.item_rows.specs.RowParts.{whole, parts_in, no_emission, IsWithin};
+ghost use Rattle.item_rows.specs.RowParts.{excerpt, parts_in, no_emission, IsWithin};
 ghost use Rattle.item_rows.specs.RowRefs.{row_in};
 ghost use Rattle.item_rows.specs.BookRows.{parts_of, AreThere};
 
 use crate::given::Given;
 use crate::numbers::RowNumbers;
-use crate::refs::Slot;
+use crate::refs::{Slot, SlotParts};
+use helpers::share_value;
 use kafka_record::{HeadersRef, NullableBytes, share_bytes, share_headers};
-use log_item::LoggedBatch;
+use log_item::{LoggedBatch, PartSlice};
 use log_spec::{Row, RowRef};
 use machine_spec::Emission;
 use std::alloc::{AllocError, Global};
@@ -35,10 +36,17 @@ impl Model for Made {
 /// What has a row's parts.
 #[derive(Drop)]
 enum Parts {
-    /// The record of a log's batch with this number, as it is.
-    Given { logged: LoggedBatch, index: usize },
+    /// The record of a log's batch with this number, of which a slice of a part is the row's value, if there is one here.
+    Given {
+        logged: LoggedBatch,
+        index: usize,
+        slice: Option<PartSlice>,
+    },
     /// One of the records that a program made, by its number.
-    Made { made: Arc<Made>, index: usize },
+    Made {
+        made: Arc<Made>,
+        index: usize,
+    },
 }
 
 /// A row as a book has it. It is one of the owners of what has its parts: the batch of a log that the
@@ -64,13 +72,14 @@ impl Model for BookRow {
 impl Parts {
     /// Another owner of a record of a log's batch.
     #[inline(always)]
-    fn of_given(given: &Given) -> Result<Parts, AllocError>
-        ensures { IfOk result (λ parts. AreThere parts × (parts_of parts ≡ whole given.now)) }
+    fn of_given(given: &Given, slice: Option<PartSlice>) -> Result<Parts, AllocError>
+        ensures { IfOk result (λ parts. AreThere parts × (parts_of parts ≡ excerpt given.now slice)) }
     {
         let logged = given.logged.share()?;
         Ok(Parts::Given {
             logged,
             index: given.index,
+            slice,
         })
     }
 
@@ -87,12 +96,12 @@ impl Parts {
     /// Another owner of a slot's parts.
     #[inline(always)]
     fn of(slot: &Slot, made: &Arc<Made>) -> Result<Parts, AllocError>
-        requires { IsWithin (length (arc_value made.now)) slot.now.made }
-        ensures { IfOk result (λ parts. AreThere parts × (parts_of parts ≡ parts_in (arc_value made.now) slot.now.given slot.now.made)) }
+        requires { IsWithin (length (arc_value made.now)) slot.now.parts }
+        ensures { IfOk result (λ parts. AreThere parts × (parts_of parts ≡ parts_in (arc_value made.now) slot.now.given slot.now.parts)) }
     {
-        match slot.made {
-            None => Self::of_given(&slot.given),
-            Some(index) => Self::of_made(made, index),
+        match slot.parts {
+            SlotParts::Given(slice) => Self::of_given(&slot.given, slice),
+            SlotParts::Made(index) => Self::of_made(made, index),
         }
     }
 
@@ -102,11 +111,16 @@ impl Parts {
         ensures { IfOk result (λ parts. AreThere parts × (parts_of parts ≡ parts_of self.now)) }
     {
         match self {
-            Parts::Given { logged, index } => {
+            Parts::Given {
+                logged,
+                index,
+                slice,
+            } => {
                 let logged = logged.share()?;
                 Ok(Parts::Given {
                     logged,
                     index: *index,
+                    slice: *slice,
                 })
             }
             Parts::Made { made, index } => {
@@ -125,7 +139,7 @@ impl BookRow {
     /// where memory runs out.
     #[inline(always)]
     pub(crate) fn of(slot: &Slot, made: &Arc<Made>) -> Result<BookRow, AllocError>
-        requires { IsWithin (length (arc_value made.now)) slot.now.made }
+        requires { IsWithin (length (arc_value made.now)) slot.now.parts }
         ensures { IfOk result (λ row. row ≡ row_in (arc_value made.now) slot.now) }
     {
         let parts = Parts::of(slot, made)?;
@@ -138,19 +152,17 @@ impl BookRow {
     /// The row of a slot whose parts a record has, where none was made. It fails only where memory runs out.
     #[inline(always)]
     pub(crate) fn of_given(slot: &Slot) -> Result<BookRow, AllocError>
-        requires { IsWithin 0 slot.now.made }
+        requires { IsWithin 0 slot.now.parts }
         ensures { IfOk result (λ row. row ≡ row_in [] slot.now) }
     {
-        match slot.made {
-            None => {
-                let parts = Parts::of_given(&slot.given)?;
-                Ok(BookRow {
-                    numbers: slot.numbers,
-                    parts,
-                })
-            }
-            Some(_) => unreachable!(),
-        }
+        let parts = match slot.parts {
+            SlotParts::Given(slice) => Parts::of_given(&slot.given, slice)?,
+            SlotParts::Made(_) => unreachable!(),
+        };
+        Ok(BookRow {
+            numbers: slot.numbers,
+            parts,
+        })
     }
 
     /// The record's offset in its input partition.
@@ -167,7 +179,11 @@ impl BookRow {
         ensures { result ≡ self.now }
     {
         match &self.parts {
-            Parts::Given { logged, index } => { self.numbers.with_record(&logged.record(*index)) }
+            Parts::Given {
+                logged,
+                index,
+                slice,
+            } => self.numbers.with_excerpt(&logged.record(*index), slice),
             Parts::Made { made, index } => {
                 let emission = &made.list[*index];
                 let key = NullableBytes::of(&emission.key);
@@ -194,13 +210,15 @@ impl BookRow {
         ensures { IfOk result (λ row. row ≡ self.now) }
     {
         match &self.parts {
-            Parts::Given { logged, index } => {
+            Parts::Given {
+                logged,
+                index,
+                slice,
+            } => {
                 let given = logged.record(*index);
                 let headers = given.headers().to_headers(alloc)?;
-                Ok(
-                    self.numbers
-                        .row(given.share_key()?, given.share_value()?, headers),
-                )
+                let value = share_value(alloc, &given, slice)?;
+                Ok(self.numbers.row(given.share_key()?, value, headers))
             }
             Parts::Made { made, index } => {
                 let emission = &made.list[*index];

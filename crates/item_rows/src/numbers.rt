@@ -5,10 +5,11 @@ ghost use Rattle.machine_spec.specs.declared.limits.TheConstants.{MAX_EMISSIONS}
 ghost use Rattle.machine_spec.specs.declared.outcome.Emission.{Emission};
 ghost use Rattle.machine_spec.specs.Meaning.{IsPlace};
 ghost use Rattle.log_spec.specs.Logs.{row_of};
-ghost use Rattle.item_rows.specs.RowParts.{row_by, whole};
+ghost use Rattle.item_rows.specs.RowParts.{row_by, whole, excerpt};
 
 use bytes::Bytes;
 use kafka_record::{HeadersRef, NullableBytes, RecordRef};
+use log_item::PartSlice;
 use log_spec::{Row, RowRef};
 use machine_spec::Place;
 use wire_spec::Headers;
@@ -40,7 +41,7 @@ impl RowNumbers {
 
     /// The row of these numbers with the parts of a record.
     #[inline(always)]
-    pub(crate) fn with_record<'r>(&self, given: &RecordRef<'r>) -> RowRef<'r>
+    fn with_record<'r>(&self, given: &RecordRef<'r>) -> RowRef<'r>
         ensures { result ≡ row_by self.now (whole given.now) }
     {
         RowRef {
@@ -52,6 +53,24 @@ impl RowNumbers {
             value: given.value().as_slice(),
             headers: given.headers(),
             parts: given.parts(),
+        }
+    }
+
+    /// The row of these numbers with the parts of a record, of which a slice of a part is the value, if there is one here.
+    #[inline(always)]
+    pub(crate) fn with_excerpt<'r>(
+        &self,
+        given: &RecordRef<'r>,
+        slice: &Option<PartSlice>,
+    ) -> RowRef<'r>
+        ensures { result ≡ row_by self.now (excerpt given.now slice.now) }
+    {
+        match slice {
+            None => self.with_record(given),
+            Some(slice) => {
+                let value = NullableBytes::new(Some(slice.bytes(given)));
+                self.with_parts(given.key(), value, given.headers())
+            }
         }
     }
 

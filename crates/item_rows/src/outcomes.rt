@@ -4,6 +4,7 @@ ghost use Rattle.std.specs.Prelude.{◌==◌, if◌then◌else◌, [], ◌∷◌
 ghost use Rattle.machine_spec.specs.declared.limits.TheConstants.{MAX_EMISSIONS};
 ghost use Rattle.machine_spec.specs.declared.outcome.Place.{Place};
 ghost use Rattle.wire_spec.specs.declared.record.Record.{Record};
+ghost use Rattle.helpers.specs.declared.emitted.Emitted.TheVariants.{Cut};
 ghost use Rattle.helpers.specs.Emitted.{emission_in, emissions_in};
 ghost use Rattle.machine_spec.specs.Meaning.{IsPlace};
 ghost use Rattle.exec.specs.Endings.{Ended, outcome_in, outcome_with, outcomes_of};
@@ -15,7 +16,7 @@ ghost use Rattle.item_rows.specs.Blocks.{records_from, rows_of_each, AreFatesMor
 use crate::given::Given;
 use crate::refs::RowRefs;
 use fates::{Counts, Fate};
-use log_item::{Block, Emitted, EmittedList, Ending, LoggedBatch};
+use log_item::{Block, Emitted, EmittedList, Ending, Excerpt, LoggedBatch};
 use machine_spec::Place;
 use std::alloc::AllocError;
 
@@ -40,9 +41,29 @@ fn out_of(emitted: &Emitted) -> usize
     ensures { (given : Record) → (emission_in given emitted.now).out ≡ result }
 {
     match emitted {
-        Emitted::Given { out } => *out,
+        Emitted::Cut(excerpt) => excerpt.out,
         Emitted::Made(emission) => emission.out,
     }
+}
+
+/// Adds the row of an excerpt of a record to its output, where that is one of the outputs from `first` on.
+#[inline(always)]
+fn push_excerpt<'a>(
+    all: &mut [RowRefs<'a>],
+    first: usize,
+    at: &RecordAt<'_, 'a>,
+    number: usize,
+    excerpt: &Excerpt,
+) -> Result<(), AllocError>
+    requires place { IsPlace at.now.place.now }
+    requires few { number < MAX_EMISSIONS }
+    ensures { OnOk result (Adds first all.old all.new (λ output here. here ≡ (if (emission_in at.now.given.now (Cut excerpt.now)).out == output then row_of at.now.place.now number (emission_in at.now.given.now (Cut excerpt.now)) ∷ [] else []))) }
+{
+    let out = excerpt.out;
+    if out < first || out - first >= all.len() {
+        return Ok(());
+    }
+    all[out - first].push_given(at.place, number, at.given, excerpt.slice)
 }
 
 /// Adds the row of what a program emitted for a record to its output, where that is one of the outputs from
@@ -115,7 +136,7 @@ pub(crate) fn push_outcome<'a>(
 }
 
 /// Adds the rows of a record of a block to their outputs, by how its run ended. Returns what became of the
-/// record. Most records are rejected, or kept as they are or not at all. What another one emitted goes through
+/// record. Most records are rejected, or an excerpt of them is kept, or nothing. What another one emitted goes through
 /// a list, whose room is used again.
 #[inline(always)]
 fn push_ended<'a>(
@@ -137,8 +158,8 @@ fn push_ended<'a>(
         return Ok(Fate::Rejected(code));
     }
     match block.kept_alone(index) {
-        Some(out) => {
-            push_row(all, first, at, 0, Emitted::Given { out })?;
+        Some(excerpt) => {
+            push_excerpt(all, first, at, 0, &excerpt)?;
             Ok(Fate::Kept)
         }
         None => {

@@ -7,14 +7,14 @@ ghost use Rattle.machine_spec.specs.Meaning.{IsPlace};
 ghost use Rattle.helpers.specs.Emitted.{emission_in};
 ghost use Rattle.std.specs.Arc.{arc_value};
 ghost use Rattle.log_spec.specs.Logs.{row_of};
-ghost use Rattle.item_rows.specs.RowParts.{whole, no_emission, IsWithin};
+ghost use Rattle.item_rows.specs.RowParts.{excerpt, no_emission, IsWithin};
 ghost use Rattle.item_rows.specs.RowRefs.{row_with, row_in, rows_by, AreWithin};
 
 use crate::book_row::{BookRow, Made};
 use crate::given::Given;
 use crate::numbers::RowNumbers;
 use kafka_record::{HeadersRef, NullableBytes};
-use log_item::Emitted;
+use log_item::{Emitted, PartSlice};
 use log_spec::RowRef;
 use machine_spec::{Emission, Place};
 use std::alloc::{AllocError, Global};
@@ -27,22 +27,30 @@ pub(crate) struct Slot<'a> {
     pub(crate) numbers: RowNumbers,
     // The record that the row came from.
     pub(crate) given: Given<'a>,
-    // Which of the made records has the parts; none where the given record has them.
-    pub(crate) made: Option<usize>,
+    pub(crate) parts: SlotParts,
+}
+
+/// What has the parts of a row.
+#[derive(Clone, Copy)]
+pub(crate) enum SlotParts {
+    /// The given record, of which a slice of a part is the row's value, if there is one here.
+    Given(Option<PartSlice>),
+    /// The made record with this number.
+    Made(usize),
 }
 
 /// A row but for its parts, which a made record has or the given one.
 #[inline(always)]
-fn slot_for<'a>(place: &Place, number: usize, given: &Given<'a>, made: Option<usize>) -> Slot<'a>
+fn slot_for<'a>(place: &Place, number: usize, given: &Given<'a>, parts: SlotParts) -> Slot<'a>
     requires place { IsPlace place.now }
     requires few { number < MAX_EMISSIONS }
     ensures row { (e : Emission) → row_with result e ≡ row_of place.now number e }
-    ensures parts { (result.given ≡ given.now) × (result.made ≡ made) }
+    ensures parts { (result.given ≡ given.now) × (result.parts ≡ parts) }
 {
     Slot {
         numbers: RowNumbers::of(place, number),
         given: given.again(),
-        made,
+        parts,
     }
 }
 
@@ -59,23 +67,23 @@ fn made_row<'r>(made: &'r [Emission], slot: &Slot, number: usize) -> RowRef<'r>
         .with_parts(key, value, HeadersRef::of(&emission.headers))
 }
 
-/// The row of a slot whose parts are the given record's.
+/// The row of a slot whose parts are the given record's, of which a slice of a part may be the value.
 #[inline(always)]
-fn given_row<'r>(slot: &'r Slot) -> RowRef<'r>
-    ensures { result ≡ row_with slot.now (whole slot.now.given) }
+fn given_row<'r>(slot: &'r Slot, slice: &Option<PartSlice>) -> RowRef<'r>
+    ensures { result ≡ row_with slot.now (excerpt slot.now.given slice.now) }
 {
-    slot.numbers.with_record(&slot.given.record())
+    slot.numbers.with_excerpt(&slot.given.record(), slice)
 }
 
 /// The row of a slot.
 #[inline(always)]
 fn row_of_slot<'r>(made: &'r [Emission], slot: &'r Slot) -> RowRef<'r>
-    requires { IsWithin (length made.now) slot.now.made }
+    requires { IsWithin (length made.now) slot.now.parts }
     ensures { result ≡ row_in made.now slot.now }
 {
-    match slot.made {
-        None => given_row(slot),
-        Some(number) => made_row(made, slot, number),
+    match &slot.parts {
+        SlotParts::Given(slice) => given_row(slot, slice),
+        SlotParts::Made(number) => made_row(made, slot, *number),
     }
 }
 
@@ -113,8 +121,8 @@ fn book_rows(alloc: Global, slots: &[Slot], made: &Arc<Made>) -> Result<Vec<Book
     Ok(rows)
 }
 
-/// The rows of an item in one output partition. A row of a record as it is has that record's parts; the
-/// parts of other rows are here. Contracts see the list of the rows.
+/// The rows of an item in one output partition. A row of a record as it is, or of a slice of it, has that record's
+/// parts; the parts of other rows are here. Contracts see the list of the rows.
 #[derive(Drop)]
 pub struct RowRefs<'a> {
     slots: Vec<Slot<'a>>,
@@ -167,24 +175,26 @@ impl<'a> RowRefs<'a> {
         ensures { OnOk result (self.new ≡ self.old ++ row_of place.now number (emission_in given.now emitted) ∷ []) }
     {
         match emitted {
-            Emitted::Given { .. } => self.push_given(place, number, given),
+            Emitted::Cut(excerpt) => self.push_given(place, number, given, excerpt.slice),
             Emitted::Made(emission) => self.push_made(place, number, given, emission),
         }
     }
 
-    /// Adds the row of a record as it is.
+    /// Adds the row of a record with its own value or with a slice of one of its parts as the value.
     #[inline(always)]
-    fn push_given(
+    pub(crate) fn push_given(
         &mut self,
         place: &Place,
         number: usize,
         given: &Given<'a>,
+        slice: Option<PartSlice>,
     ) -> Result<(), AllocError>
         requires place { IsPlace place.now }
         requires few { number < MAX_EMISSIONS }
-        ensures { OnOk result (self.new ≡ self.old ++ row_of place.now number (whole given.now) ∷ []) }
+        ensures { OnOk result (self.new ≡ self.old ++ row_of place.now number (excerpt given.now slice) ∷ []) }
     {
-        self.slots.push(slot_for(place, number, given, None))?;
+        self.slots
+            .push(slot_for(place, number, given, SlotParts::Given(slice)))?;
         Ok(())
     }
 
@@ -203,7 +213,8 @@ impl<'a> RowRefs<'a> {
         let made = self.made.len();
         make_room(&mut self.made, self.slots.capacity())?;
         self.made.push(emission)?;
-        self.slots.push(slot_for(place, number, given, Some(made)))?;
+        self.slots
+            .push(slot_for(place, number, given, SlotParts::Made(made)))?;
         Ok(())
     }
 

@@ -1,7 +1,8 @@
-use Rattle.std.proofs.Common.{◌≡◌, ℕ, ◌+◌, Some, List, ◌++◌, ◌∷◌, [], length, sym, ap, subst, ◌∙◌, arith}
+use Rattle.std.proofs.Common.{◌≡◌, ℕ, ◌+◌, List, ◌++◌, ◌∷◌, [], length, sym, ap, subst, ◌∙◌, arith}
 use Rattle.std.proofs.lemmas.List.{length-append}
 use Rattle.log_spec.specs.{declared.row.Row.Row, Logs.row_of}
 use Rattle.machine_spec.specs.declared.outcome.Emission.{Emission}
+use Rattle.item_rows.specs.declared.refs.SlotParts.TheVariants as slot_parts
 use Rattle.item_rows.specs.{declared.refs.Slot.Slot, RowRefs.rows_by, RowRefs.AreWithin}
 use Rattle.item_rows.proofs.RefLaws.{made_more, one_within, all_within, last_made}
 use Rattle.item_rows.proofs.refs.RowRefs.push_made.Goals as goal
@@ -25,7 +26,7 @@ invariant_of-self-2 c =
     subst (λ (ss : List Slot). AreWithin (length c.push.new.self.items) ss) (sym c.in_ok-push-2.ensures.items)
     (subst (λ (n : ℕ). AreWithin n (inside.slots.items ++ c.slot_for.result ∷ [])) (sym more)
     (one_within end (end + 1) inside.slots.items c.slot_for.result (omega arith) c.self.invariant
-    (last_made end c.slot_for.result.made (c.slot_for.ensures.parts.1 ∙ ap Some last))))
+    (last_made end c.slot_for.result.parts (c.slot_for.ensures.parts.1 ∙ ap slot_parts.Made last))))
 
 pub returns : goal.returns
 returns c =
@@ -36,5 +37,5 @@ returns c =
     (c.in_ok-push.ensures.items ∙ ap (λ (es : List Emission). es ++ emission ∷ []) c.make_room.ensures)
     ∙ (ap (rows_by (made ++ emission ∷ [])) c.in_ok-push-2.ensures.items
     ∙ (made_more made slots slot emission row c.self.invariant
-    (c.slot_for.ensures.parts.1 ∙ ap Some last) c.slot_for.ensures.row
+    (c.slot_for.ensures.parts.1 ∙ ap slot_parts.Made last) c.slot_for.ensures.row
     ∙ ap (λ (rs : List Row). rs ++ row emission ∷ []) c.self.view_is))

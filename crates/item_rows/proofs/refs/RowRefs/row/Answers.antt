@@ -12,7 +12,7 @@ row_of_slot-requires c =
     let slot = c.index-slot.result.now in
     let lt : c.args.index < length slots =
     omega (arith, c.requires, ap length c.self.view_is, length-map slots (row_in made)) in
-    subst (λ (es : List Emission). IsWithin (length es) slot.made) (sym c.deref.ensures.value)
+    subst (λ (es : List Emission). IsWithin (length es) slot.parts) (sym c.deref.ensures.value)
     (within_at (length made) slots c.args.index slot c.self.invariant lt c.index-slot.ensures)
 
 pub returns : goal.returns
