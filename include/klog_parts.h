@@ -44,6 +44,10 @@ HELPER(20, emit_part, u64 output, u64 part, u64 at, u64 length);
  * result is that of emit_record, or 4 where the value lacks some of the bytes, and 5 where it gets too long. */
 HELPER(21, emit_changed, u64 output, u64 at, u64 length, const void *bytes, u64 count);
 
+/* Adds a header to what this run emits from now on, by whatever helper, after its other headers. The result is 0, or 1 where there are
+ * sixteen with the record's own, 2 where the key has over 255 bytes or is no UTF-8, and 3 where the value has over 4,096 bytes. */
+HELPER(22, add_header, const void *key, u64 key_length, const void *value, u64 value_length);
+
 /* Where a piece of a part is, if it is there. */
 struct span {
 	u64 is_there, at, length;

@@ -57,7 +57,7 @@ def part_image(rng):
     some_number = lambda most: rng.choice([0, 0, 1, 2, rng.randrange(most), -1])
     code = b""
     for _ in range(rng.choice([1, 1, 2, 3])):
-        helper = rng.choice(range(13, 22))
+        helper = rng.choice(range(13, 23))
         # up to eight bytes of a part are copied to the stack, of which some are given to the helper
         code += slot(0xBF, 1, src=10) + slot(0x07, 1, -8) + slot(0xB7, 2, rng.randrange(3)) + slot(0xB7, 3, rng.choice([1, 2, 8]))
         code += slot(0xB7, 4, rng.randrange(6)) + slot(0x85, 0, 14)
@@ -69,6 +69,8 @@ def part_image(rng):
         code += slot(0x85, 0, helper)
         if rng.random() < 0.4:
             code += slot(0x15, 0, 0, offset=1) + slot(0x95, 0)
+    if rng.random() < 0.5:
+        code += slot(0xB7, 1) + slot(0x85, 0, rng.choice([3, 6]))
     return code + slot(0x95, 0)
 
 

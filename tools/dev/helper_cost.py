@@ -42,9 +42,10 @@ PLACE = slot(0xB7, 2)
 ONE_BYTE = stack_at(3) + slot(0xB7, 4, imm=1)
 WHOLE_VALUE = slot(0xBF, 3, 6) + slot(0xBF, 4, 7)
 KEY_AND_VALUE = slot(0xBF, 2, 8) + slot(0xBF, 3, 9) + slot(0xBF, 4, 6) + slot(0xBF, 5, 7)
+HEADER = stack_at(1) + slot(0xB7, 2, imm=255) + stack_at(3) + slot(0xB7, 4, imm=512)
 STACK_TWICE = stack_at(2) + slot(0xB7, 3, imm=512) + stack_at(4) + slot(0xB7, 5, imm=512)
 
-# What is timed: a name, what sets the arguments, the call, and how often.
+# What is timed: a name, what sets the arguments, the call, and how often; and the record's headers, where it has others.
 CALLS = [
     ("load_value, 512 bytes", ROOM, call(1), 3000),
     ("load_key, 512 bytes", ROOM, call(2), 3000),
@@ -71,6 +72,9 @@ CALLS = [
     ("header, 255 bytes, none of 16", stack_at(1) + slot(0xB7, 2, imm=255), call(19), 2500),
     ("emit_part, 1,048,576 bytes", OUTPUT + PLACE + slot(0xB7, 3) + slot(0xB7, 4, imm=1048576), call(20), 16),
     ("emit_changed, 1,048,576 bytes", OUTPUT + PLACE + slot(0xB7, 3) + stack_at(4) + slot(0xB7, 5), call(21), 16),
+    ("add_header, refused: there are sixteen", HEADER, call(22), 2000),
+    ("add_header, 255 and 512 bytes of the stack", HEADER, call(22), 16, []),
+    ("add_header, and emit_record with it", HEADER, call(22) + OUTPUT + call(3), 16, []),
 ]
 
 # Instructions of one kind, as many as an image has room for.
@@ -87,10 +91,10 @@ def file_of(image):
     return b"KLOG" + struct.pack("<3I", 1, 3, len(image)) + image
 
 
-def taken(engine, image, runs=RUNS):
+def taken(engine, image, headers=HEADERS, runs=RUNS):
     """The least time of some runs, in nanoseconds."""
     with Program(engine, file_of(image), 0) as program:
-        program.run(KEY, VALUE, headers=HEADERS)
+        program.run(KEY, VALUE, headers=headers)
         least = None
         for _ in range(runs):
             start = time.process_time_ns()
@@ -101,23 +105,23 @@ def taken(engine, image, runs=RUNS):
     return least
 
 
-def cost(engine, arguments, code, count):
+def cost(engine, arguments, code, count, headers=HEADERS):
     """What one call takes: where it ends the run, r0 is 0."""
     begin = SET_STACK + KEEP
-    return (taken(engine, begin + (arguments + code) * count + END) - taken(engine, begin + arguments * count + END)) / count
+    return (taken(engine, begin + (arguments + code) * count + END, headers) - taken(engine, begin + arguments * count + END, headers)) / count
 
 
 def main(name):
     engine = Engine(os.path.abspath(name))
-    for what, arguments, code, count in CALLS:
-        print(f"{cost(engine, arguments, code, count):10.0f} ns  {what}")
+    for what, *call_of in CALLS:
+        print(f"{cost(engine, *call_of):10.0f} ns  {what}")
     begin = SET_STACK + KEEP + slot(0xB7, 7, imm=9)
     for what, part in RECORDS:
         rounds = (8 * SLOTS - len(begin) - len(END)) // len(part)
         print(f"{taken(engine, begin + part * rounds + END) / 1000:10.0f} µs  a record, by a program of {SLOTS:,} slots: {what}")
     begin, part = SET_STACK + KEEP, OUTPUT + PLACE + WHOLE_VALUE + call(15)
     rounds = (8 * SLOTS - len(begin) - len(END)) // len(part)
-    print(f"{taken(engine, begin + part * rounds + END, 1) / 1000000:10.0f} ms  a record, by {rounds:,} searches for its whole value")
+    print(f"{taken(engine, begin + part * rounds + END, runs=1) / 1000000:10.0f} ms  a record, by {rounds:,} searches for its whole value")
 
 
 if __name__ == "__main__":

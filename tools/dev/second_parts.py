@@ -4,6 +4,7 @@ import re
 MOST_PLACES, MOST_DIGITS, MOST_VALUE, MOST_KEY, MOST_EMISSIONS = 4095, 18, 1048576, 4096, 16
 MULTIPLIER, SEED = 0x5BD1E995, 0x9747B28C
 M32 = (1 << 32) - 1
+MOST_HEADERS, MOST_HEADER_KEY, MOST_HEADER_VALUE = 16, 255, 4096
 EMITS = (3, 4, 5, 6, 20, 21)
 
 
@@ -90,8 +91,25 @@ def emission(helper, record, numbers, named):
             5: lambda: (named[0], named[1], []), 6: lambda: (record.key, None, [])}[helper](), 0
 
 
-def emitted(helper, record, numbers, named, outputs, before):
-    """The emit code of a helper, and what it emits if that is 0; `before` emissions were made."""
-    made, code = emission(helper, record, numbers, named)
+def add_header(record, added, key, value):
+    """What helper 22 answers, which adds a header to others; where it is 0, the header is among them afterwards."""
+    if len(record.headers) + len(added) >= MOST_HEADERS:
+        return 1
+    try:
+        key.decode()
+    except UnicodeDecodeError:
+        return 2
+    if len(key) > MOST_HEADER_KEY:
+        return 2
+    if len(value) > MOST_HEADER_VALUE:
+        return 3
+    added.append((key, value))
+    return 0
+
+
+def emitted(helper, record, numbers, named, outputs, before, added):
+    """The emit code of a helper, and what it emits if that is 0, with the added headers; `before` emissions were made."""
+    (key, value, headers), code = emission(helper, record, numbers, named)
+    made = key, value, [*headers, *added]
     answered = 1 if numbers[0] >= outputs else 2 if len(made[0] or b"") > MOST_KEY else 3 if before >= MOST_EMISSIONS else code
     return answered, made

@@ -8,7 +8,7 @@ TESTS = {"eq": "==", "ne": "!=", "gt": ">", "ge": ">=", "lt": "<", "le": "<=", "
 TYPES = {1: "u8", 2: "u16", 4: "u32", 8: "u64"}
 HELPERS = {1: "load_value", 2: "load_key", 3: "emit_record", 4: "emit_value", 5: "emit", 6: "emit_null", 7: "record_offset", 8: "record_timestamp",
            9: "record_partition", 10: "header_count", 11: "header_key", 12: "header_value", 13: "part_length", 14: "load_part", 15: "find", 16: "equals", 17: "decimal",
-           18: "hash", 19: "header", 20: "emit_part", 21: "emit_changed"}
+           18: "hash", 19: "header", 20: "emit_part", 21: "emit_changed", 22: "add_header"}
 
 
 def shown_number(n):

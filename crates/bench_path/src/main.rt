@@ -198,7 +198,7 @@ fn rows_of(stream: &Transform<Sink>) -> u64 {
 /// The program of an image in a file.
 fn program_of(rt: &HostRuntime, alloc: Global, name: &str) -> io::Result<Program> {
     let image = Bytes::from_vec(fs::read(rt, name)?)?;
-    match Program::new(alloc, &image, Table::One) {
+    match Program::new(alloc, &image, Table::Three) {
         Ok(program) => Ok(program),
         Err(_) => Err(ErrorKind::InvalidData.into()),
     }

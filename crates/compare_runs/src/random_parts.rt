@@ -74,17 +74,34 @@ impl Random {
                 self.push_number(image, 3)?;
                 self.push_named(image, 4, 5)
             }
+            22 => {
+                self.push_named(image, 1, 2)?;
+                self.push_named(image, 3, 4)
+            }
             _ => self.push_part_number(image, 1),
         }
+    }
+
+    /// Up to sixteen headers are added, with the same bytes as key and as value.
+    fn push_headers(&mut self, image: &mut Vec<u8>) -> Result<(), AllocError> {
+        let headers = self.below(17);
+        for _ in 0..headers {
+            self.push_arguments(image, 22)?;
+            put(image, slot(0x85, 0, 0, 0, 22))?;
+        }
+        Ok(())
     }
 
     /// A call of a helper over parts, whose answer goes to a register.
     fn push_part_call(&mut self, image: &mut Vec<u8>) -> Result<(), AllocError> {
         self.push_bytes(image)?;
-        let helper = match 13 + self.below(9) as u8 {
+        let helper = match 13 + self.below(10) as u8 {
             14 => 13,
             helper => helper,
         };
+        if helper == 22 && self.below(4) == 0 {
+            self.push_headers(image)?;
+        }
         self.push_arguments(image, helper)?;
         put(image, slot(0x85, 0, 0, 0, i32::from(helper)))?;
         let dst = self.register();

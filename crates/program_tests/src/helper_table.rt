@@ -3,7 +3,7 @@
 use machine_spec::{Argument, Helper, Instruction, Summary, Table};
 use std::test::*;
 
-static NUMBERS: [(i32, Option<Helper>); 14] = [
+static NUMBERS: [(i32, Option<Helper>); 15] = [
     (3, Some(Helper::EmitRecord)),
     (99, None),
     (-3, None),
@@ -15,13 +15,14 @@ static NUMBERS: [(i32, Option<Helper>); 14] = [
     (12, Some(Helper::HeaderValue)),
     (13, Some(Helper::PartLength)),
     (21, Some(Helper::EmitChanged)),
-    (22, None),
+    (22, Some(Helper::AddHeader)),
+    (23, None),
     (4, Some(Helper::EmitValue)),
     (5, Some(Helper::Emit)),
 ];
 
 /// Tables, numbers and the helpers that they name there.
-static TABLES: [(Table, i32, Option<Helper>); 10] = [
+static TABLES: [(Table, i32, Option<Helper>); 12] = [
     (Table::One, 9, Some(Helper::Partition)),
     (Table::One, 10, None),
     (Table::One, 12, None),
@@ -31,11 +32,13 @@ static TABLES: [(Table, i32, Option<Helper>); 10] = [
     (Table::Two, 21, None),
     (Table::Three, 1, Some(Helper::LoadValue)),
     (Table::Three, 20, Some(Helper::EmitPart)),
-    (Table::Three, 22, None),
+    (Table::Two, 22, None),
+    (Table::Three, 22, Some(Helper::AddHeader)),
+    (Table::Three, 23, None),
 ];
 
 /// Helpers, and an argument of each by its place.
-static ARGUMENTS: [(Helper, usize, Argument); 19] = [
+static ARGUMENTS: [(Helper, usize, Argument); 20] = [
     (Helper::EmitRecord, 0, Argument::Number(1)),
     (Helper::Partition, 0, Argument::Nothing),
     (Helper::LoadKey, 0, Argument::Room(1, 3)),
@@ -55,10 +58,11 @@ static ARGUMENTS: [(Helper, usize, Argument); 19] = [
     (Helper::FindHeader, 0, Argument::Bytes(1, 2)),
     (Helper::EmitPart, 3, Argument::Number(4)),
     (Helper::EmitChanged, 3, Argument::Bytes(4, 5)),
+    (Helper::AddHeader, 1, Argument::Bytes(3, 4)),
 ];
 
 /// Helpers, their numbers and the greatest number that each answers.
-static ANSWERS: [(Helper, i32, u64); 15] = [
+static ANSWERS: [(Helper, i32, u64); 16] = [
     (Helper::EmitRecord, 3, 3),
     (Helper::Partition, 9, 63),
     (Helper::LoadKey, 2, 1),
@@ -74,6 +78,7 @@ static ANSWERS: [(Helper, i32, u64); 15] = [
     (Helper::FindHeader, 19, 16),
     (Helper::EmitPart, 20, 4),
     (Helper::EmitChanged, 21, 5),
+    (Helper::AddHeader, 22, 3),
 ];
 
 fn numbers_name(rows: &[(i32, Option<Helper>)]) -> bool {

@@ -34,6 +34,12 @@ CASES = [
     ("json", '\tstruct span s = json_text("x");\n\treturn s.is_there ? s.at * 10 + s.length : 1;', [(WITH, 142 + 10), (LONG, 1)]),
     ("headers", '\treturn header_is("n", "text") * 4 + header_is("n", "second") * 2 + header_is("m", "") + 1;', [(WITH, 5), (LONG, 1)]),
     ("changed", "\treturn emit_changed(0, 1, 2, key, key_length);", [(Record(b"KEY", b"abcde", ((b"h", b""),)), [Emission(0, b"KEY", b"aKEYde", ((b"h", b""),))]), (Record(b"", b"ab"), 4)]),
+    ("added", '\tu64 code = add_header("n", 1, value, value_length);\n\treturn code ? code : emit_record(0);',
+     [(Record(b"k", b"v", ((b"h", None),)), [Emission(0, b"k", b"v", ((b"h", None), (b"n", b"v")))]), (Record(b"", b"", ((b"h", None),) * 15), [Emission(0, b"", b"", ((b"h", None),) * 15 + ((b"n", b""),))]),
+      (Record(b"", bytes(4097), ((b"h", None),) * 16), 1), (Record(b"", bytes(4097), ((b"h", None),) * 15), 3)]),
+    ("added_text", '\tu64 first = emit_null(0), code = add_header(key, key_length, "", 0);\n\treturn first * 10 + (code ? code : emit_null(1));',
+     [(Record("ä".encode(), None), [Emission(0, "ä".encode(), None), Emission(1, "ä".encode(), None, (("ä".encode(), b""),))]), (Record(b"\xff", b""), 2), (Record(b"a" * 256, b""), 2),
+      (Record(b"a" * 255, b"", ((b"h", b""),)), [Emission(0, b"a" * 255, None), Emission(1, b"a" * 255, None, ((b"a" * 255, b""),))])]),
     ("texts", '\treturn starts_with(VALUE, "a,") * 4 + contains(VALUE, "yz") * 2 + contains(KEY, "z") + 1;', [(WITH, 7), (LONG, 1)]),
 ]
 
@@ -85,7 +91,7 @@ class Programs(unittest.TestCase):
 
     def test_examples(self):
         paths = sorted(glob.glob(os.path.join(TOP, "examples", "c", "parts", "*.c")))
-        self.assertEqual(len(paths), 6)
+        self.assertEqual(len(paths), 7)
         for path in paths:
             with self.subTest(path), open(path, encoding="utf-8") as it:
                 cases, program = examples(path, it.read()), Program(Compiler().object_of(path))

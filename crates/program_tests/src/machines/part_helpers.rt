@@ -157,13 +157,54 @@ fn emissions_of_parts_are_refused(rt: HostRuntime) {
     all_hold(&rt, REFUSED, |row| both(alloc, (Table::Three, 1), row));
 }
 
+/// Headers that are added to emissions. At the entry r1 and r2 name the value, r3 and r4 the key.
+static ADDED: &str = "\
+# the header stands after the record's own, and alone where an emission has none of these
+6b 61 68:- | call 22; mov64 r1, 0; call 3; exit | 6b 61 68:- 61:6b
+6b 61 | call 22; mov64 r1, 0; call 3; exit | 6b 61 61:6b
+. 61 68:- | call 22; mov64 r1, 0; call 6; exit | . - 61:.
+6b 61 68:- | call 22; mov64 r1, 0; mov64 r2, 1; mov64 r3, 0; mov64 r4, 1; call 20; exit | 6b 6b 68:- 61:6b
+6b 61 68:- | call 22; mov64 r4, r10; mov64 r5, 0; mov64 r1, 0; mov64 r2, 0; mov64 r3, 1; call 21; exit | 6b . 68:- 61:6b
+# a second one stands after the first
+6b 61 | mov64 r6, r1; mov64 r7, r2; mov64 r8, r3; mov64 r9, r4; call 22; mov64 r1, r8; mov64 r2, r9; mov64 r3, r6; \
+    mov64 r4, r7; call 22; mov64 r1, 0; call 3; exit | 6b 61 61:6b 6b:61
+# the sixteenth, and the longest key
+. 61*255 31:- 31:- 31:- 31:- 31:- 31:- 31:- 31:- 31:- 31:- 31:- 31:- 31:- 31:- 31:- | call 22; mov64 r1, 0; call 6; exit | . - 61*255:.
+# what is not added
+6b ff 68:- | call 22; mov64 r1, 0; call 3; exit | 6b ff 68:-
+";
+
+/// What the helper answers.
+static NOT_ADDED: &str = "\
+6b 61*255 | call 22; exit | kept 0 after 2
+6b*4096 61 | call 22; exit | kept 0 after 2
+. . | call 22; exit | kept 0 after 2
+# there are sixteen, with the record's own; the key is too long, or no text; the value is too long
+6b ff 31:- 31:- 31:- 31:- 31:- 31:- 31:- 31:- 31:- 31:- 31:- 31:- 31:- 31:- 31:- 31:- | call 22; exit | rejected 1 after 2
+6b 61 31:- 31:- 31:- 31:- 31:- 31:- 31:- 31:- 31:- 31:- 31:- 31:- 31:- 31:- 31:- | mov64 r6, r1; mov64 r7, r2; \
+    mov64 r8, r3; mov64 r9, r4; call 22; mov64 r1, r6; mov64 r2, r7; mov64 r3, r8; mov64 r4, r9; call 22; exit | \
+    rejected 1 after 11
+6b 61*256 | call 22; exit | rejected 2 after 2
+6b ff | call 22; exit | rejected 2 after 2
+6b c3a4 | call 22; exit | kept 0 after 2
+6b 61*4097 | mov64 r6, r1; mov64 r7, r2; mov64 r1, r3; mov64 r2, r4; mov64 r3, r6; mov64 r4, r7; call 22; exit | \
+    rejected 3 after 8
+";
+
+#[test]
+fn headers_are_added(rt: HostRuntime) {
+    let alloc = rt.alloc();
+    all_hold(&rt, ADDED, |row| emits(alloc, (Table::Three, 1), row));
+    all_hold(&rt, NOT_ADDED, |row| both(alloc, (Table::Three, 1), row));
+}
+
 /// The trap and the fault of a load under table two, and under table three.
 static NO_HELPER: &str = "\
 6b - | mov64 r1, 0; call 13; exit | Helper after 1; V11 Helper at 1
 ";
 
 static WRONG: &str = "\
-6b - | mov64 r1, 0; call 22; exit | Helper after 1; V11 Helper at 1
+6b - | mov64 r1, 0; call 23; exit | Helper after 1; V11 Helper at 1
 # the part's number is an address; bytes that are not set; room that is none; nothing in r4
 6b - | call 13; exit | HelperArgument after 0; V12 HelperArg at 0
 6b - | mov64 r3, r10; add64 r3, -8; mov64 r4, 1; mov64 r1, 0; mov64 r2, 0; call 15; exit | HelperArgument after 5; \
