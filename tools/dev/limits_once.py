@@ -16,11 +16,12 @@ FLOOR = ("wire_spec", "machine_spec", "log_spec")
 LEFT_OUT = re.compile(r"(_tests|fixtures)$|^(bench_.*|soak|embedding|compare_runs)$")
 NUMERAL = re.compile(r"(?<![\w.])[0-9][0-9_]*(?![\w.])")
 
-# numerals that equal a limit by chance: file or folder, number, what the number is
+# numerals that equal a limit by chance, or in rows of examples: file or folder, number, what the number is
 CHANCE = {
     ("bpf_machine/proofs/Loads.antt", 65536): "2^16, by which the upper two of four bytes count",
     ("commands/proofs/ListLaws.antt", 65536): "the bytes of a buffered reader",
     ("machine_spec/proofs/PartAnswers.antt", 4096): "the places that a search looks at",
+    ("machine_spec/proofs/PartRuns.antt", 4096): "rows of examples, whose numbers come from outside",
     ("machine_spec/specs/Places.antt", 4096): "the places that a search looks at",
     ("record_parts/proofs/", 4096): "the places that a search looks at",
     ("record_parts/specs/", 4096): "the places that a search looks at",
