@@ -7,6 +7,8 @@
 #[cfg(test)]
 mod abreast;
 #[cfg(test)]
+mod block_texts;
+#[cfg(test)]
 mod changes;
 #[cfg(test)]
 mod damage;
