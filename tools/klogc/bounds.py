@@ -1,11 +1,11 @@
 """What is known of numbers by what they are sums of: bounds of the record's lengths, of sums, and of how far sums are from a length."""
-import itertools
 from typing import NamedTuple
 
 from .code import Variable
-from .values import LENGTH_TERMS, LIMIT, MOST_TERMS, REGION_OF, Value, added, const, number, small, summed, window
+from .terms import LENGTH_TERMS, MOST_TERMS, has_length, plus, region_of, sum_in, turned
+from .values import LIMIT, Value, added, const, made, number, small, summed, window
 
-FAR = 1 << 62
+FAR, HALF = 1 << 62, 1 << 63
 
 
 class Held(NamedTuple):
@@ -16,6 +16,7 @@ class Held(NamedTuple):
 
 class Bounds:
     """The part of State that knows of sums; its fields are told there."""
+    __slots__ = ()
     variables: dict[Variable, Value]
     memory: dict[int, Held]
     least: dict[str, int]
@@ -28,26 +29,34 @@ class Bounds:
 
     def keep_fact(self, terms, region, slacks, c):
         """What may be added on both ways to terms and a constant, which are not negative then, is a fact of the terms."""
-        if None not in slacks and min(slacks) > -LIMIT[region]:
+        if terms and None not in slacks and min(slacks) > -LIMIT[region]:
             self.facts[terms, region] = min(slacks) + c
             self.floors[terms] = max(-c, self.floors.get(terms, -c))
 
-    def least_difference(self, v, w):
-        """The least that v - w is known to be, of two that are not negative."""
-        least = self.current(v).lo - self.current(w).hi
-        terms, c = summed(v, w, -1), small(v.c) - small(w.c)
-        if not terms:
+    def least_difference(self, v, w, parts=None):
+        """The least that v - w is known to be, of two that are not negative. `parts` are parts_of the floors, for who asks often."""
+        least = self._ends(v)[0] - self._ends(w)[1]
+        c = small(v.c) - small(w.c)
+        if v.terms == w.terms:
             return max(least, c)
-        if terms in self.floors:
-            least = max(least, self.floors[terms] + c)
+        floor = self.floors.get(sum_in(v.terms, turned(w.terms), parts))
+        if floor is not None and floor + c > least:
+            least = floor + c
         region = v.length_region()
         slack = self.slack(w, region) if region else None
         return least if slack is None else max(least, slack + small(v.c))
 
+    def _ends(self, v):
+        """The bounds of current(v)."""
+        if not has_length(v.terms):
+            return v.lo, v.hi
+        now = self.current(v)
+        return now.lo, now.hi
+
     def current(self, v):
         """A number that is a length but for a constant, with the bounds that the length has here."""
-        region = REGION_OF.get(v.terms)
-        if region is None or v.is_const():
+        region = region_of(v.terms)
+        if region is None or v.lo == v.hi:
             return v
         lo, hi = window(self.least[region] + small(v.c), self.most[region] + small(v.c))
         return const(lo, v.region) if lo == hi else number(lo, hi, None, v.terms, v.c, v.region)
@@ -61,8 +70,10 @@ class Bounds:
         if v.terms is not None and max(v.hi, w.hi) <= LIMIT["value"] and (apart := summed(w, v, -1)):
             least = small(v.c) - small(w.c) + less
             self.floors[apart] = max(least, self.floors.get(apart, least))
-        known = [(terms, region, 0) for region, terms in LENGTH_TERMS.items()]
-        known += [(terms, region, k) for (terms, region), k in self.facts.items() if w.terms[0] in terms or w.terms[-1] in terms]
+        first, last, known = w.terms[0], w.terms[-1], []
+        if has_length(v.terms) or has_length(w.terms):
+            known = [(terms, region, 0) for region, terms in LENGTH_TERMS.items()]
+        known += [(terms, region, k) for (terms, region), k in self.facts.items() if first in terms or last in terms]
         for terms, region, k in known:
             if (terms, region) != (v.terms, region):
                 self._learn_sum(v, w, less, (terms, region, k))
@@ -70,7 +81,7 @@ class Bounds:
     def _learn_sum(self, v, w, less, known):
         """Terms and k are at most a region's length together, and v at most w, or below it."""
         terms, region, k = known
-        left = joined_terms(v.terms or (), terms, turned(w.terms))
+        left = plus(plus(v.terms, terms), turned(w.terms))
         if not left:
             self.least[region] = max(self.least[region], k + small(v.c) - small(w.c) + less)
             return
@@ -115,11 +126,11 @@ class Bounds:
 
     def settled(self, v):
         """A number with the bounds that its terms are known to have."""
-        if v.terms in REGION_OF:
+        if has_length(v.terms) and region_of(v.terms):
             return self.current(v)
-        if v.lo >= 0 and v.hi >> 63 == 0 or v.terms not in self.floors or abs(small(v.c)) >= FAR:
+        if 0 <= v.lo and v.hi < HALF or v.terms not in self.floors or abs(small(v.c)) >= FAR:
             return v
-        lo, hi = self.floors[v.terms] + small(v.c), min(v.hi, (1 << 63) - 1)
+        lo, hi = self.floors[v.terms] + small(v.c), min(v.hi, HALF - 1)
         if turned(v.terms) in self.floors:
             hi = min(hi, small(v.c) - self.floors[turned(v.terms)])
         return v._replace(lo=lo, hi=max(lo, hi)) if lo >= 0 else v
@@ -128,15 +139,22 @@ class Bounds:
         """The most that is known to be possible to add to v, which is not negative, so that it is still at most the region's
         length; or None."""
         v = self.settled(v)
-        if v.lo < 0 or v.hi >> 63:
+        if v.lo < 0 or v.hi >= HALF:
             return None
-        known = [self.least[region] - v.hi]
-        if v.terms is not None and abs(small(v.c)) < FAR:
-            if v.terms == LENGTH_TERMS[region]:
-                known.append(-small(v.c))
-            if (v.terms, region) in self.facts:
-                known.append(self.facts[v.terms, region] - small(v.c))
-        return max(known)
+        slack, terms, c = self.least[region] - v.hi, v.terms, small(v.c)
+        if terms is not None and -FAR < c < FAR:
+            if terms == LENGTH_TERMS[region]:
+                slack = max(slack, -c)
+            fact = self.facts.get((terms, region))
+            if fact is not None and fact - c > slack:
+                slack = fact - c
+        return slack
+
+    def turned_slack(self, v, region):
+        """The same of the negated number: of one that is not 0 it is known only where its bounds are told otherwise than by itself."""
+        if 0 <= v.lo and 0 < v.hi < HALF and not has_length(v.terms) and turned(v.terms) not in self.floors:
+            return None
+        return self.slack(negated(v), region)
 
     def is_inside(self, v, more, region):
         """Whether v and `more` are known to be at most the region's length together."""
@@ -150,10 +168,11 @@ class Bounds:
         slack = self.slack(v, region)
         if slack is None or v.terms is None:
             return slack
+        parts, without = {term for term, _ in v.terms}, turned(v.terms)
         for (terms, which), k in self.facts.items():
-            if which != region:
+            if which != region or terms[0][0] not in parts and (len(terms) == 1 or not touches(parts, terms)):
                 continue
-            rest = joined_terms(terms, turned(v.terms))
+            rest = plus(terms, without)
             known = self.whole_range(rest) if rest and len(rest) <= len(terms) else None
             if known is not None:
                 slack = max(slack, k + known[0] - small(v.c))
@@ -184,17 +203,21 @@ class Bounds:
     def divide_length(self, region, c, divisor, remainder):
         """A length and a constant have a remainder by a divisor."""
         if divisor > self.grid[region][0]:
-            self.grid[region] = divisor, (remainder - c) % divisor
+            self.grid = {**self.grid, region: (divisor, (remainder - c) % divisor)}
 
     def _settle_lengths(self):
         """Takes the bounds of the lengths to what their remainders allow. False where they have none."""
+        least, most = self.least, self.most
         for region, (divisor, remainder) in self.grid.items():
-            self.least[region] += (remainder - self.least[region]) % divisor
-            self.most[region] -= (self.most[region] - remainder) % divisor
-        return all(self.least[r] <= self.most[r] for r in LIMIT)
+            if divisor > 1:
+                least[region] += (remainder - least[region]) % divisor
+                most[region] -= (most[region] - remainder) % divisor
+        return least["value"] <= most["value"] and least["key"] <= most["key"]
 
     def _narrow_difference(self, v, lo, hi):
         """What it says of a number and of a length that their difference is from lo to hi."""
+        if not has_length(v.terms):
+            return
         for region, ((length, _),) in LENGTH_TERMS.items():
             sign = dict(v.terms).get(length)
             if sign not in (1, -1) or len(v.terms) == 1:
@@ -220,9 +243,9 @@ class Bounds:
             return
         parts = {term for term, factor in v.terms if factor > 0}
         for (terms, region), k in list(self.facts.items()):
-            if terms == v.terms or not any(term in parts for term, factor in terms if factor > 0):
+            if terms == v.terms or not shares(parts, terms):
                 continue
-            rest = joined_terms(terms, turned(v.terms))
+            rest = plus(terms, turned(v.terms))
             known = self.whole_range(rest) if 0 < len(rest) < len(terms) + len(v.terms) else None
             if known is None:
                 continue
@@ -233,8 +256,7 @@ class Bounds:
 
     def whole_range(self, terms):
         """Between which whole numbers a sum of terms is known to be, if it is."""
-        numbers = itertools.chain(self.variables.values(), (held.value for held in self.memory.values() if held.value is not None))
-        for v in numbers:
+        for v in (*self.variables.values(), *[held.value for held in self.memory.values() if held.value is not None]):
             if v.terms == terms and v.hi >> 40 == 0 and is_whole(v := self.settled(v)):
                 return v.lo - small(v.c), v.hi - small(v.c)
         if terms in self.floors:
@@ -252,37 +274,41 @@ class Bounds:
         return bool(ends) and self._settle_lengths()
 
 
-def joined_terms(first, *parts):
-    """The terms of a sum of terms."""
-    factors = dict(first or ())
-    for part in parts:
-        for term, factor in part or ():
-            factors[term] = factors.get(term, 0) + factor
-    return tuple(sorted([pair for pair in factors.items() if pair[1]]))
+def touches(parts, terms):
+    """Whether one of the parts is in a sum."""
+    for term, _ in terms:
+        if term in parts:
+            return True
+    return False
+
+
+def shares(parts, terms):
+    """Whether one of the parts is in a sum with a factor above 0."""
+    for term, factor in terms:
+        if factor > 0 and term in parts:
+            return True
+    return False
 
 
 def negated(v):
     return added(const(0), v, -1)
 
 
-def turned(terms):
-    """The terms of the negated number."""
-    return None if terms is None else tuple((term, -factor) for term, factor in terms)
-
-
 def is_whole(v):
     """Whether a number and its terms' sum are the same modulo 2^64 and as whole numbers."""
-    return v.lo >= 0 and v.hi >> 63 == 0 and abs(small(v.c)) < FAR
+    return 0 <= v.lo and v.hi < HALF and -FAR < small(v.c) < FAR
 
 
 def narrowed(x, v, lo, hi):
     """x, which differs from v by a constant, where v is from lo to hi."""
     low, high = lo + x.c - v.c, hi + x.c - v.c
+    if 0 <= low <= x.lo < x.hi <= high < HALF and x.hi <= x.mask < 1 << x.hi.bit_length():
+        return x
     both = [(max(low + k, x.lo), min(high + k, x.hi)) for k in (0, 1 << 64, -1 << 64) if low + k <= x.hi and x.lo <= high + k]
     if not both:
         return x
     a, b = min(a for a, _ in both), max(b for _, b in both)
     if a == b:
         # It keeps its terms, which others have.
-        return const(a, x.region)._replace(terms=x.terms, c=x.c) if a >= 0 else const(a, x.region)
+        return made((x.region, a, a, a, x.terms, x.c)) if a >= 0 else const(a, x.region)
     return number(a, b, x.mask, x.terms, x.c, x.region)

@@ -7,7 +7,8 @@ from .code import BASE, FRAME, LENGTH, OUTSIDE, ROOM, Alu, Bound, Call, Goto, Mo
 from .memory import Memory, bytes_text, span
 from .program import STACK
 from .state import State
-from .values import LENGTH_TERMS, added, number, signed, unsigned
+from .terms import LENGTH_TERMS
+from .values import added, number, signed, unsigned
 from .writer import Given, region_text
 
 LOADS = {1: "value", 2: "key"}

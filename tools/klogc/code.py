@@ -1,4 +1,5 @@
 """The code that the pass writes: instructions over variables, before they have registers."""
+import functools
 from typing import NamedTuple
 
 
@@ -23,6 +24,7 @@ class Variable(NamedTuple):
         return self.number if self.kind == "register" else None
 
 
+@functools.cache
 def register(number, copy=0):
     return Variable("register", number, copy)
 

@@ -84,6 +84,7 @@ class Jumps(Numbers):
         if x.value.region is not None and width == 32:
             self.fail("32 bits of addresses are compared: compare the places in the record, or the whole addresses")
         test = Comparison(name, width, x.value, y.value).simpler()
+        tests = self.length_tests(s, test, x, y)
         ends = self.ends(s, test)
         if not ends:
             self.emit(Goto(OUTSIDE))
@@ -91,7 +92,7 @@ class Jumps(Numbers):
             side, end = next(iter(ends.items()))
             self.emit(Goto(self.edge(taken if side else on, end)))
         else:
-            self.write_jump(s, test, (x, y), ends, (taken, on))
+            self.write_jump(tests or [plain_test(test, x, y)], s, ends, (taken, on))
 
     def null_test(self, s: State, name, values, taken, on):
         """A test of an address against a number: only of whether it is null, which none is."""
@@ -103,16 +104,16 @@ class Jumps(Numbers):
 
     @staticmethod
     def ends(s: State, test: Comparison):
-        """What is known where the test holds, and where it doesn't, if that is possible."""
+        """What is known where the test holds, and where it doesn't, if that is possible. The last of them is s, changed."""
         sides, ends = test.sides(), {}
         if len(sides) == 1:
             return dict.fromkeys(sides, s)
         for side, (p, q) in sides.items():
-            t = s.copy()
+            holds = test.plain() if side else OPPOSITE.get(test.plain())
+            if test.width == 64 and is_impossible(s, holds, test):
+                continue
+            t = s.copy() if side else s
             if test.width == 64:
-                holds = test.plain() if side else OPPOSITE.get(test.plain())
-                if is_impossible(s, holds, test):
-                    continue
                 if not (t.narrow(test.v, *p) and t.narrow(test.w, *q)):
                     continue
                 learn(t, holds, test)
@@ -123,18 +124,13 @@ class Jumps(Numbers):
             ends[side] = t
         return ends
 
-    def write_jump(self, s: State, test: Comparison, operands, ends, ways):
-        (x, y), (taken, on) = operands, ways
-        tests = self.length_tests(s, test, x, y)
-        if tests is None:
-            if x.value.is_const():
-                test, x, y = test._replace(name=MIRRORED[test.name]), y, x
-            tests = [(test.name, test.width, x.written, y.written)]
+    def write_jump(self, tests, s: State, ends, ways):
         for region, length in LENGTH.items():
             if all(is_length_test(each, length) for each in tests):
                 sure = s.sure[region]
                 ends[True].sure[region] = max(sure, min(least_of(name, k, sure) for name, _, _, k in tests))
                 ends[False].sure[region] = max(sure, *(least_of(OPPOSITE[name], k, sure) for name, _, _, k in tests))
+        taken, on = ways
         label = self.edge(taken, ends[True])
         for each in tests:
             self.emit(Test(*each, label, False))
@@ -164,6 +160,13 @@ class Jumps(Numbers):
         self.emit(Exit(self.spelled(s.current(v), self.name(0))))
 
 
+def plain_test(test: Comparison, x: Given, y: Given):
+    """The test as it is, or mirrored if its first number is a constant."""
+    if x.value.is_const():
+        return MIRRORED[test.name], test.width, y.written, x.written
+    return test.name, test.width, x.written, y.written
+
+
 def narrow_low(t: State, test: Comparison, v, interval):
     """Learns what a test of 32 bits says of a number that has no more. False where that can't be."""
     lo, hi = interval
@@ -189,14 +192,18 @@ def is_impossible(s: State, holds, test: Comparison):
     """Whether facts of numbers that are not negative say that a test can't hold."""
     if test.v.region != test.w.region or min(test.v.lo, test.w.lo) < 0 or max(test.v.hi, test.w.hi) >> 63:
         return False
-    v, w = s.settled(test.v), s.settled(test.w)
-    if v.terms and w.terms and max(v.hi, w.hi) <= LIMIT["value"]:
-        more, less = s.least_difference(v, w), s.least_difference(w, v)
-        if {"lt": more >= 0, "le": more > 0, "gt": less >= 0, "ge": less > 0, "eq": more > 0 or less > 0}.get(holds):
-            return True
-    below, above = s.gap(test.v, test.w), s.gap(test.w, test.v)
-    least = {"lt": (None, 0), "le": (None, 1), "eq": (1, 1), "gt": (0, None), "ge": (1, None)}.get(holds, (None, None))
-    return any(gap is not None and most is not None and gap >= most for gap, most in zip((below, above), least))
+    if holds in ("lt", "le", "eq") and is_above(s, test.v, test.w, holds == "lt"):
+        return True
+    return holds in ("gt", "ge", "eq") and is_above(s, test.w, test.v, holds == "gt")
+
+
+def is_above(s: State, v, w, or_equal):
+    """Whether v is known to be more than w, or perhaps equal to it."""
+    now, other = s.settled(v), s.settled(w)
+    if now.terms and other.terms and max(now.hi, other.hi) <= LIMIT["value"] and s.least_difference(now, other) > -or_equal:
+        return True
+    gap = s.gap(w, v)
+    return gap is not None and gap > -or_equal
 
 
 def is_length_test(test, length):

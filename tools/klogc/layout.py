@@ -4,7 +4,7 @@ from typing import NamedTuple
 
 import second_machine as machine
 
-from .registers import EXIT, JUMP, Item
+from .places import EXIT, JUMP, Item
 from .writer import TooLong
 
 SLOTS = 16384

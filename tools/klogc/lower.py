@@ -8,7 +8,8 @@ from .code import TRAPS
 from .layout import SLOTS, filled, laid_out, view
 from .lowering import Lowering
 from .program import STACK, Program, Refused
-from .registers import Allocator, trimmed
+from .registers import Allocator
+from .trim import trimmed
 from .writer import Learned, Settings, TooLong
 
 MOST_RUNS, MOST_TRIES, MOST_FILLS = 200, 40, 4

@@ -2,31 +2,33 @@
 which its variables are addresses, with what is known there, and writes the code."""
 import collections
 import heapq
-from typing import NamedTuple
 
 from .calls import Calls
 from .code import ENTRY, LOOP, Entry, Goto, Move, register
 from .program import Block, Place
 from .state import State
+from .terms import LENGTH_TERMS
 from .values import M32, M64, const, length, number
 from .writer import Ended, TooLong
 
 ABSENT = (M32, M64)
+KEY_LENGTH = LENGTH_TERMS["key"]
 # The copies of a block in one round for which it matters which text a variable is.
 MOST_COPIES = 8
 
 
-class Copy(NamedTuple):
-    """A block's copy: the block, the rounds of the loops around it, and the kinds of its variables."""
-    place: Place
-    rounds: tuple
-    kinds: tuple
+class Copy:
+    """A block's copy: the block, the rounds of the loops around it, and the kinds of its variables. There is one of each."""
+    __slots__ = ("place", "rounds", "kinds")
+
+    def __init__(self, place: Place, rounds: tuple, kinds: tuple):
+        self.place, self.rounds, self.kinds = place, rounds, kinds
 
 
 def kind(v):
     """What sets ways apart on which a variable is something else: the region of an address, and that it is the key's length, since
     where one is the key's length or the value's it goes with an address of the key or the value."""
-    return v.region if v.region is not None else "length" if v.length_region() == "key" else None
+    return v.region if v.region is not None else "length" if v.terms == KEY_LENGTH else None
 
 
 def fine_kind(v):
@@ -41,6 +43,8 @@ class Lowering(Calls):
         super().__init__(program, settings, learned)
         self.places, self.heads, self.turns = program.order(settings.flat)
         self.live, self.read = program.liveness(), {}
+        self.made_copies: dict[tuple, Copy] = {}
+        self.steps: dict[Place, list] = {}
         self.waiting: dict[Copy, State] = {}
         self.queue: list = []
         self.deepest: dict[Place, int] = {}
@@ -75,12 +79,10 @@ class Lowering(Calls):
         """A way leads to a copy of a block, which has what is known on all ways to it."""
         if place not in self.read:
             self.read[place] = [register(r) if isinstance(r, int) else register(r[1], self.copies[r[0]]) for r in self.live[place]]
-        read = self.read[place] + [name for name in s.variables if name[0] == "slot"]
-        s.keep(read)
-        kind_of = fine_kind if self.settings.fine else kind
-        copy = self.copy_of(place, rounds, [(name, kind_of(s.variables[name])) for name in read if name in s.variables])
+        s.keep(self.read[place] + [name for name in s.variables if name[0] == "slot"])
+        copy = self.copy_of(place, rounds, s.variables, fine_kind if self.settings.fine else kind)
         if self.settings.fine and copy not in self.waiting and self.copies_of[place, rounds] >= MOST_COPIES:
-            copy = self.copy_of(place, rounds, [(name, kind(s.variables[name])) for name in read if name in s.variables])
+            copy = self.copy_of(place, rounds, s.variables, kind)
         if copy in self.waiting:
             self.waiting[copy] = self.waiting[copy].join(s)
             return copy
@@ -93,9 +95,12 @@ class Lowering(Calls):
         heapq.heappush(self.queue, (key, self.arrived, copy))
         return copy
 
-    @staticmethod
-    def copy_of(place, rounds, known):
-        return Copy(place, rounds, tuple(sorted((name, str(what)) for name, what in known if what is not None)))
+    def copy_of(self, place, rounds, variables, kind_of):
+        kinds = [(name, str(what)) for name, v in variables.items() if (what := kind_of(v)) is not None]
+        found = place, rounds, tuple(sorted(kinds))
+        if found not in self.made_copies:
+            self.made_copies[found] = Copy(*found)
+        return self.made_copies[found]
 
     def edge(self, to, s: State):
         """Where a way from the current block leads: to a copy of a block, or to the end of a loop of too many rounds."""
@@ -115,9 +120,9 @@ class Lowering(Calls):
     # ---- a block
 
     def block(self, block: Block, s: State):
+        self.names = self.names_of(block.path)
         try:
-            for slot, i in block.instructions:
-                self.here = Place(block.path, block.section, slot)
+            for self.here, i in self.steps_of(block):
                 self.instruction(s, i, block)
             if i[0] == "local" and self.is_part_copy(s, i):
                 self.part_copy(s)
@@ -126,6 +131,12 @@ class Lowering(Calls):
                 self.emit(Goto(self.edge(block.next[0], s)))
         except Ended:
             pass
+
+    def steps_of(self, block: Block):
+        """The block's instructions with their places."""
+        if self.current.place not in self.steps:
+            self.steps[self.current.place] = block.places()
+        return self.steps[self.current.place]
 
     def instruction(self, s: State, i, block: Block):
         match i[0]:

@@ -2,7 +2,8 @@
 from .code import LENGTH, OUTSIDE, Alu, Change, Move, Test
 from .program import INTRINSICS
 from .state import State
-from .values import M32, M64, MIXED, REGION_OF, added, changed, const, low32, number, quotient32, result, signed, small, unsigned
+from .terms import region_of
+from .values import M32, M64, MIXED, added, changed, const, low32, number, quotient32, result, signed, small, unsigned
 from .writer import Given, Writer
 
 MANY_TERMS = 4
@@ -45,7 +46,7 @@ class Numbers(Writer):
     def alu(self, s: State, i):
         _, dst, source, width, name = i
         x, y = self.operand(s, ("reg", dst)), self.operand(s, source, width)
-        if name in ("add", "sub") and max(len(x.value.terms or ()), len(y.value.terms or ())) >= MANY_TERMS and x.value.terms and y.value.terms:
+        if name in ("add", "sub") and x.value.terms and y.value.terms and max(len(x.value.terms), len(y.value.terms)) >= MANY_TERMS:
             s.name_sum(max(x.value.terms, y.value.terms, key=len))
             x, y = self.operand(s, ("reg", dst)), self.operand(s, source, width)
         v, w, region = x.value, y.value, None
@@ -62,8 +63,8 @@ class Numbers(Writer):
             self.emit(Move(self.name(dst), known.lo, 64))
         elif known in (v, w):
             self.emit(Move(self.name(dst), x.written if known == v else y.written, 64))
-        elif known.terms in REGION_OF and known.c == 0:
-            self.emit(Move(self.name(dst), LENGTH[REGION_OF[known.terms]], 64))
+        elif known.c == 0 and region_of(known.terms):
+            self.emit(Move(self.name(dst), LENGTH[region_of(known.terms)], 64))
         else:
             self.write_alu(name, width, self.name(dst), x, y)
 
@@ -150,9 +151,9 @@ def related(s: State, name, width, operands, known):
         known = shifted_back(s, name, v, w.lo, known)
     if known.c == 0 and (name == "div" or name == "rsh" and w.is_const()):
         divisor = w if name == "div" else power(w, width)
-        s.quotients[known.terms] = v, divisor
+        s.note("quotients", known.terms, (v, divisor))
         if divisor.is_const() and v.length_region() and v.c == 0:
-            s.scales[known.terms] = v.length_region(), divisor.lo
+            s.note("scales", known.terms, (v.length_region(), divisor.lo))
     elif name == "mul":
         multiplied(s, v, w, known)
         multiplied(s, w, v, known)
@@ -167,7 +168,7 @@ def related(s: State, name, width, operands, known):
         s.learn(known, w, True)
     divisor = w.lo + (name == "and") if w.is_const() and name in ("and", "mod") else 0
     if v.length_region() and v.lo >= 0 and known.terms is not None and known.c == 0 and divisor and (name == "mod" or divisor & w.lo == 0):
-        s.remainders[known.terms] = v.length_region(), small(v.c), divisor
+        s.note("remainders", known.terms, (v.length_region(), small(v.c), divisor))
     return known
 
 
@@ -180,7 +181,7 @@ def multiplied(s: State, quotient, factor, known):
     """A quotient times its divisor is the dividend without the remainder."""
     of, by = s.quotients.get(quotient.terms, (None, None)) if quotient.c == 0 else (None, None)
     if of is not None and same(by, factor) and known.c == 0:
-        s.multiples[known.terms] = of, by
+        s.note("multiples", known.terms, (of, by))
 
 
 def remainder(s: State, v, w, known):
@@ -201,7 +202,7 @@ def shifted_back(s: State, name, v, count, known):
     """What is known of a shift's result: where a number was shifted to the left without a loss, it is the number again when it is
     shifted back, as compilers do to cut a number to 32 bits."""
     if name == "lsh" and 0 <= v.lo and v.hi << count < 1 << 63:
-        s.shifts[known.terms] = count, v
+        s.note("shifts", known.terms, (count, v))
     elif name in ("rsh", "arsh") and v.c == 0 and s.shifts.get(v.terms, (None,))[0] == count:
         return s.current(s.shifts[v.terms][1])
     return known

@@ -1,10 +1,13 @@
-"""The object's code as blocks: calls of its own functions are followed into a copy of them for each call, and the loops are found."""
+"""The object's code as blocks: calls of its own functions are followed into a copy of them for each call."""
 import collections
 import struct
 from typing import NamedTuple
 
 from bpf_object import COMMON, DATA_OBJECT, EXECUTABLE, FUNCTION, NO_BYTES, SECTION_NAME, UNDEFINED, WRITABLE, Damaged, Lines, Object
-from second_machine import HELPERS, Refused as BadForm, form
+from second_machine import Refused as BadForm, form
+
+from .liveness import liveness
+from .loops import ordered
 
 # What runtime.h and the compiler's part put in place of what BPF lacks.
 INTRINSICS = {f"__klog_{name}{width}": (name, width) for name in ("sdiv", "smod") for width in (32, 64)}
@@ -45,13 +48,9 @@ class Block(NamedTuple):
     instructions: list
     next: list
 
-
-class Order(NamedTuple):
-    """Of each block its place within each loop around it, outermost first, so that edges lead forward in each; the heads of these
-    loops; and the blocks to which a way begins a round."""
-    places: dict
-    heads: dict
-    turns: set
+    def places(self):
+        """The instructions, each with its place."""
+        return [(Place(self.path, self.section, slot), i) for slot, i in self.instructions]
 
 
 class Program:
@@ -71,6 +70,7 @@ class Program:
         self.functions = {(s.section, s.value // 8): s for s in self.obj.functions()}
         self.sections, self.lines, self.held = {}, {}, {}
         self.functions_of = {}  # what meaning.py makes of the sections
+        self.lines_at = {}  # the C lines that were looked for
         self.entry = Place((), found[0].section, found[0].value // 8)
         self.blocks = {}
         left = [self.entry]
@@ -195,6 +195,11 @@ class Program:
 
     def line(self, place):
         """The C line of a place: of what runtime.h has, that of the call, and of what has none, the last one before it."""
+        if place not in self.lines_at:
+            self.lines_at[place] = self._line(place)
+        return self.lines_at[place]
+
+    def _line(self, place):
         path, section, slot = place
         for number, at in [(section, slot), *reversed(path)]:
             near = range(at, max(at - NEAR, -1), -1) if number in self.lines else ()
@@ -202,6 +207,15 @@ class Program:
             if line and line.file != RUNTIME:
                 return f"{line.file}:{line.line}"
         return None
+
+    # ---- the blocks as a whole
+
+    def order(self, flat=False):
+        """The order of the blocks, by its loops."""
+        return ordered(self.blocks, self.entry, flat)
+
+    def liveness(self):
+        return liveness(self.blocks)
 
     # ---- the stack
 
@@ -236,166 +250,7 @@ class Program:
                     least = min(least, n)
         return (-least + 7) // 8 * 8
 
-    # ---- what is read afterwards
-
-    def liveness(self):
-        """The registers that each block or what follows it may read before it writes them: numbers, or (path, number) of those
-        that a call keeps."""
-        live, defined = {}, {}
-        before = collections.defaultdict(set)
-        for place, block in self.blocks.items():
-            live[place], defined[place] = used_and_defined(block)
-            for to in block.next:
-                before[to].add(place)
-        left = list(self.blocks)
-        while left:
-            place = left.pop()
-            for p in before[place]:
-                more = live[place] - defined[p] - live[p]
-                if more:
-                    live[p] |= more
-                    left.append(p)
-        return live
-
-    # ---- loops
-
-    def order(self, flat=False):
-        """The order of the blocks. A head has the place -1 in its loop. Flat, a loop and those in it are one, and a way to a head of
-        any of them begins a round."""
-        order = Order({}, {}, set())
-        places, heads, turns = order
-
-        def arrange(blocks, place, around, entry):
-            following = lambda n: [m for m in self.blocks[n].next if m in blocks and m not in around[-1:]]
-            for at, part in enumerate(components(blocks, following, entry)):
-                if len(part) == 1 and part[0] not in self.blocks[part[0]].next:
-                    places[part[0]], heads[part[0]] = place + (at,), around
-                    continue
-                inside = set(part)
-                head = self._head(part, inside, blocks, around, entry)
-                if flat:
-                    self._flatten(inside, head, place + (at,), order)
-                    continue
-                turns.add(head)
-                places[head], heads[head] = place + (at, -1), around + (head,)
-                inside.discard(head)
-                if inside:
-                    arrange(inside, place + (at,), around + (head,), None)
-
-        arrange(set(self.blocks), (), (), self.entry)
-        return order
-
-    def _flatten(self, inside, first, place, order: Order):
-        """Places of the blocks of a loop in one round, in which no way leads to a head of it or of a loop in it."""
-        turns, left = set(), [(inside, first)]
-        while left:
-            blocks, head = left.pop()
-            turns.add(head)
-            rest = blocks - {head}
-            following = lambda n: [m for m in self.blocks[n].next if m in rest]
-            left += [(set(part), self._head(part, set(part), inside, (), None)) for part in components(rest, following, None)
-                     if len(part) > 1 or part[0] in self.blocks[part[0]].next]
-        order.turns.update(turns)
-        forward = lambda n: [m for m in self.blocks[n].next if m in inside and m not in turns]
-        for at, (block,) in enumerate(components(inside, forward, first)):
-            order.places[block], order.heads[block] = place + (at,), (first,)
-
-    def _head(self, part, inside, blocks, around, entry):
-        """The block of a loop to which others lead, the first of them in the code."""
-        entered = {m for n in blocks if n not in inside for m in self.blocks[n].next}
-        heads = (n for n in part if n == entry or n in entered or around and n == around[-1])
-        return min(heads, key=lambda n: (len(n.path), n.slot), default=part[0])
-
 
 def known_functions(obj):
     names = [f"`{s.name}`" for s in obj.functions() if s.name not in RUNTIME_NAMES]
     return "the source has " + ", ".join(names[:10]) + (", .." if len(names) > 10 else "") if names else "the source has no function"
-
-
-def source_register(source):
-    return {source[1]} if source[0] == "reg" else set()
-
-
-def registers_of(i):
-    """The registers that an instruction reads and those that it writes."""
-    match i:
-        case ("mov", dst, source, _):
-            return source_register(source), {dst}
-        case ("alu", dst, source, _, _):
-            return source_register(source) | {dst}, {dst}
-        case ("change", dst, src, _):
-            return {src}, {dst}
-        case ("load", _, dst, src, _, _):
-            return {src}, {dst}
-        case ("store", _, dst, source, _):
-            return source_register(source) | {dst}, set()
-        case ("jump", _, dst, source, _, _):
-            return source_register(source) | {dst}, set()
-        case ("call", helper):
-            numbers, pairs, rooms, _ = HELPERS.get(helper, ([1, 2, 3, 4, 5], [], [], 0))
-            return {*numbers, *(r for pair in pairs + rooms for r in pair)}, set(range(6))
-        case ("intrinsic", _):
-            return {1, 2}, set(range(6))
-        case ("wide", dst, _) | ("constants", dst, _, _):
-            return set(), {dst}
-        case ("exit",):
-            return {0}, set()
-    return set(), set()
-
-
-def used_and_defined(block):
-    name = lambda r: r if r < 6 else (block.path, r)
-    used, defined = set(), set()
-    for _, i in block.instructions:
-        read, written = registers_of(i)
-        used |= {name(r) for r in read if r != 10} - defined
-        defined |= {name(r) for r in written}
-    return used, defined
-
-
-class Components:
-    """The strongly connected components of a graph (Tarjan)."""
-
-    def __init__(self, following):
-        self.following, self.index, self.low = following, {}, {}
-        self.stack, self.on, self.found = [], set(), []
-
-    def enter(self, node):
-        self.index[node] = self.low[node] = len(self.index)
-        self.stack.append(node)
-        self.on.add(node)
-        return node, iter(self.following(node))
-
-    def leave(self, node):
-        if self.low[node] != self.index[node]:
-            return
-        part = []
-        while not part or part[-1] != node:
-            part.append(self.stack.pop())
-        self.on.difference_update(part)
-        self.found.append(part)
-
-    def visit(self, root):
-        work = [self.enter(root)]
-        while work:
-            node, rest = work[-1]
-            child = next(rest, None)
-            if child is None:
-                work.pop()
-                if work:
-                    above = work[-1][0]
-                    self.low[above] = min(self.low[above], self.low[node])
-                self.leave(node)
-            elif child not in self.index:
-                work.append(self.enter(child))
-            elif child in self.on:
-                self.low[node] = min(self.low[node], self.index[child])
-
-
-def components(nodes, following, entry):
-    """The strongly connected components in an order in which edges lead forward."""
-    made = Components(following)
-    for root in ([entry] if entry in nodes else []) + sorted(nodes):
-        if root not in made.index:
-            made.visit(root)
-    return made.found[::-1]

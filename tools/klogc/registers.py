@@ -1,67 +1,21 @@
-"""Leaves out what nothing reads, and gives the variables of the lowered code registers, or places on the stack."""
+"""Gives the variables of the lowered code registers, or places on the stack, and writes its instructions with them."""
 import collections
-from typing import NamedTuple
 
 from second_machine import TESTS
 
-from .code import (ENTRY, FRAME, OUTSIDE, PURE, TRAPS, Alu, Bound, Call, Change, Entry, Exit, Goto, Load, Move, Point, PointAt, Store, Test, Variable,
-                   is_variable, reads, register, target, written)
+from .choice import SPARE
+from .code import (ENTRY, FRAME, OUTSIDE, TRAPS, Alu, Bound, Call, Change, Entry, Exit, Goto, Load, Move, Point, PointAt, Store, Test, Variable, is_variable,
+                   register, written)
 from .jumps import OPPOSITE
 from .numbers import COMMUTATIVE
-from .program import STACK, Refused
+from .places import CONSTANT, EXIT, JUMP, MOVE, MOVE32
+from .ways import Ways
 
 CODES = {"add": 0, "sub": 1, "mul": 2, "div": 3, "or": 4, "and": 5, "lsh": 6, "rsh": 7, "mod": 9, "xor": 10, "arsh": 12, "sdiv": 3, "smod": 9}
 TEST_CODES = {name: code for code, name in TESTS.items()}
 SIZES = {1: 0x10, 2: 0x08, 4: 0x00, 8: 0x18}
 ORDERS = {"le": 0xD4, "be": 0xDC, "swap": 0xD7}
-MOVE, MOVE32, CONSTANT, WIDE, JUMP, EXIT = 0xBF, 0xBC, 0xB7, 0x18, 0x05, 0x95
 KEPT = (6, 7, 8, 9)
-NEAR, SOON, FAR = 40, 60, 1 << 20
-SPARE = Variable("temp", -1)
-
-
-class Item(NamedTuple):
-    """A slot of the image to be, or a label. `kind` is "slot", "wide", "jump" or "label"; of a jump and of a label `label` says which."""
-    kind: str
-    opcode: int = 0
-    dst: int = 0
-    src: int = 0
-    offset: int = 0
-    imm: int = 0
-    label: object = None
-    place: object = None
-    number: int = -1
-
-
-class Line(NamedTuple):
-    """An instruction, where it comes from, and the variables that are wanted after it."""
-    place: object
-    instruction: tuple
-    after: frozenset
-
-
-def trimmed(blocks):
-    """The blocks without what nothing reads, and of each label the variables that are wanted there."""
-    wanted, made = {trap: frozenset() for trap in TRAPS}, []
-    for label, code in reversed(blocks):
-        live, kept = frozenset(), []
-        for place, i in reversed(code):
-            if type(i) is Goto:
-                live = wanted[i.target]
-            elif type(i) is Exit:
-                live = frozenset()
-            to = written(i)
-            if type(i) in PURE and to not in live or type(i) is Move and i.width == 64 and i.to == i.source:
-                continue
-            kept.append(Line(place, i, live))
-            if to is not None:
-                live = live - {to}
-            live = live.union(reads(i))
-            if type(i) is Test:
-                live |= wanted[target(i)]
-        wanted[label] = live
-        made.append((label, kept[::-1]))
-    return made[::-1], wanted
 
 
 def saved_registers(blocks):
@@ -73,97 +27,15 @@ def saved_registers(blocks):
     return named
 
 
-class Places:
-    """Where variables are: a register, or the stack. Which registers are free is what the code says that was written so far."""
-
-    def __init__(self, spill_at, spills, variables):
-        self.spill_at, self.spills, self.variables = spill_at, spills, variables
-        self.items: list[Item] = []
-        self.place = None
-        self.held: dict[int, Variable] = {}            # what a register has
-        self.at: dict[Variable, int | str] = {}        # a register's number, or "stack"
-        self.slots: dict[Variable, int] = {}
-        self.free_slots: list[int] = []
-        self.most = 0
-        self.count = 0
-
-    # ---- items
-
-    def item(self, kind, opcode=0, dst=0, src=0, **words):
-        self.count += 1
-        self.items.append(Item(kind, opcode, dst, src, place=self.place, number=self.count, **words))
-
-    def op(self, opcode, dst, src=0, offset=0, imm=0):
-        self.item("slot", opcode, dst, src, offset=offset, imm=imm)
-
-    def constant(self, p, n):
-        s = n - (1 << 64) if n >> 63 else n
-        if -1 << 31 <= s < 1 << 31:
-            self.op(CONSTANT, p, imm=s)
-        else:
-            self.item("wide", WIDE, p, imm=n)
-
-    # ---- the stack
-
-    def slot(self, v):
-        """A variable's place on the stack: one that the compiler had there keeps its own."""
-        if v.kind == "slot":
-            return v.number - STACK
-        if v not in self.slots:
-            if self.free_slots:
-                self.slots[v] = self.free_slots.pop()
-            else:
-                self.slots[v] = self.most
-                self.most += 1
-        return self.spill_at + 8 * self.slots[v] - STACK
-
-    def is_small(self, v):
-        return v.kind == "slot" and self.variables.get(v.number) == 4
-
-    def save(self, v, p):
-        self.op(0x63 if self.is_small(v) else 0x7B, 10, p, self.slot(v))
-
-    def restore(self, v, p):
-        self.op(0x61 if self.is_small(v) else 0x79, p, 10, self.slot(v))
-
-    # ---- places
-
-    def put(self, v, p):
-        self.held[p], self.at[v] = v, p
-
-    def drop(self, v):
-        """A variable is nowhere any more."""
-        p = self.at.pop(v, None)
-        if isinstance(p, int) and self.held.get(p) == v:
-            del self.held[p]
-        if p == "stack" and v.is_temporary() and v in self.slots:
-            self.free_slots.append(self.slots.pop(v))
-
-    def spill(self, p):
-        v = self.held.pop(p)
-        self.save(v, p)
-        self.at[v] = "stack"
-
-    def in_register(self, v):
-        return isinstance(self.at.get(v), int)
-
-
-class Allocator(Places):
-    """Gives each block's variables registers as it goes through it. Where a block begins they are as the first way to it has
-    them, and every other way moves them there."""
+class Allocator(Ways):
+    """Gives each block's variables registers as it goes through it."""
 
     def __init__(self, blocks, wanted, lowering):
         learned = lowering.learned
-        super().__init__(lowering.spill_at, learned.spills, learned.variables)
-        self.blocks, self.wanted = blocks, wanted
-        self.entry: dict = {}
+        super().__init__(wanted, lowering.spill_at, learned.spills, learned.variables)
+        self.blocks = blocks
         self.stubs: list = []
         self.made = 0
-        self.code: list[Line] = []
-        self.k = 0
-        self.after = self.wanted_last = frozenset()
-        self.addresses: set[Variable] = set()
-        self.busy: set[int] = set()
         self.keep = self.kept_entry(saved_registers(blocks))
         self.writers = {Entry: self.write_entry, Move: self.write_move, Alu: self.write_alu, Change: self.write_change, PointAt: self.write_point_at,
                         Point: self.write_point, Load: self.write_load, Store: self.write_store, Bound: self.write_bound, Test: self.write_test,
@@ -206,137 +78,6 @@ class Allocator(Places):
             self.at[v] = p
             if isinstance(p, int):
                 self.held[p] = v
-
-    # ---- which register
-
-    def preferred(self, v):
-        """Registers for a variable, the best first."""
-        if v.kind == "entry":
-            return [self.keep.get(v, v.number)]
-        if v.kind == "argument":
-            return [v.copy]
-        first = [v.number] if v.kind == "register" else []
-        for line in self.code[self.k + 1:self.k + NEAR]:
-            is_call = type(line.instruction) is Call
-            if is_call and v in line.after:
-                return first + [6, 7, 8, 9, 0, 5, 4, 3, 2, 1]
-            if is_call or v not in line.after:
-                break
-        return first + [0, 5, 4, 3, 2, 1, 9, 8, 7, 6]
-
-    def next_use(self, v):
-        for at in range(self.k, min(self.k + SOON, len(self.code))):
-            if v in reads(self.code[at].instruction):
-                return at
-        return FAR if v in self.wanted_last else FAR // 2
-
-    def can_spill(self, v):
-        return v.kind not in ("entry", "argument") and v not in self.addresses
-
-    def take(self, v, avoid, among=range(10)):
-        """A register for a variable: a free one, or one from which another is moved to the stack."""
-        free = [p for p in among if p not in self.held and p not in avoid]
-        reserved = set() if v in self.keep else set(self.keep.values())
-        for p in self.preferred(v):
-            if p in free and p not in reserved:
-                return p
-        if v in self.keep and self.keep[v] in among:
-            self.make_free(self.keep[v], avoid)
-            return self.keep[v]
-        for p in (5, 4, 3, 2, 1, 0, 9, 8, 7, 6):
-            if p in free and p not in reserved:
-                return p
-        for p in (9, 8, 7, 6):
-            if p in free:
-                return p
-        able = [p for p in self.held if p in among and p not in avoid and self.can_spill(self.held[p])]
-        if not able:
-            raise Refused("the code has more addresses at hand than there are registers")
-        p = max(able, key=lambda p: self.next_use(self.held[p]))
-        self.spill(p)
-        return p
-
-    def make_free(self, p, avoid=(), among=range(10)):
-        """Moves what is in a register elsewhere."""
-        if p not in self.held:
-            return
-        v = self.held[p]
-        free = [q for q in (6, 7, 8, 9, 0, 5, 4, 3, 2, 1) if q not in self.held and q in among and q not in avoid and q != p and q not in self.keep.values()]
-        if not free and self.can_spill(v):
-            self.spill(p)
-            return
-        q = free[0] if free else self.take(v, set(avoid) | {p}, [q for q in among if q != p])
-        self.op(MOVE, q, p)
-        del self.held[p]
-        self.put(v, q)
-
-    def use(self, v, avoid=()):
-        """The register in which a variable is read."""
-        if v == FRAME:
-            return 10
-        p = self.at.get(v)
-        if isinstance(p, int):
-            return p
-        q = self.take(v, set(avoid) | self.busy)
-        if p == "stack":
-            self.restore(v, q)
-            self.at.pop(v)
-            if v.is_temporary():
-                self.free_slots.append(self.slots.pop(v))
-        else:
-            self.op(CONSTANT, q)
-        self.put(v, q)
-        self.busy.add(q)
-        return q
-
-    def define(self, v, avoid=()):
-        """The register in which a variable is written."""
-        p = self.at.get(v)
-        if v.kind == "argument":
-            if p is None:
-                self.make_free(v.copy, set(avoid))
-                self.put(v, v.copy)
-            return v.copy
-        if isinstance(p, int):
-            return p
-        if p == "stack":
-            self.drop(v)
-        q = self.take(v, set(avoid))
-        self.put(v, q)
-        return q
-
-    def may_stay(self, to, p):
-        """Whether a result may take an operand's register: not if the register that the compiler gave it is free, where other
-        ways expect it."""
-        home = to.home()
-        return home is None or home == p or home in self.held or home in self.keep.values()
-
-    def is_done_with(self, v):
-        return v not in self.after and v.kind != "entry"
-
-    def result(self, to, a, p, avoid=()):
-        """The register of a result: that of an operand which is wanted no more, if it can be."""
-        if self.in_register(to):
-            return self.at[to]
-        if self.is_done_with(a) and to.kind != "argument" and p not in avoid and self.may_stay(to, p):
-            self.drop(to)
-            self.drop(a)
-            self.put(to, p)
-            return p
-        return self.define(to, set(avoid) | {p})
-
-    @staticmethod
-    def immediate(n, width):
-        """The field for a constant operand, or None if it doesn't fit."""
-        n &= (1 << width) - 1
-        s = n - (1 << width) if n >> (width - 1) else n
-        return s if -1 << 31 <= s < 1 << 31 else None
-
-    def spare(self, n, avoid):
-        """A register with a constant, for one instruction."""
-        p = self.take(SPARE, avoid)
-        self.constant(p, n)
-        return p
 
     # ---- instructions
 
@@ -531,7 +272,7 @@ class Allocator(Places):
                 self.op(MOVE, 0, p)
         self.op(EXIT, 0)
 
-    # ---- ways to other blocks
+    # ---- jumps
 
     def write_test(self, i):
         p = self.use(i.a)
@@ -561,69 +302,3 @@ class Allocator(Places):
             self.items += moves
         else:
             self.item("jump", JUMP, label=to)
-
-    def way(self, label):
-        """Where a way leads, and what is moved before so that each variable is where it is expected."""
-        wanted = self.wanted[label]
-        if label not in self.entry:
-            self.entry[label] = {v: self.at.get(v, "stack") for v in wanted}
-            goal, have = {v: "stack" for v in wanted if v not in self.at}, {}
-        else:
-            goal, have = self.entry[label], self.at
-        if not goal:
-            return label, None
-        held, self.items = self.items, []
-        self.rearrange(goal, have)
-        made, self.items = self.items, held
-        if not made:
-            return label, None
-        self.count += 1
-        made.append(Item("jump", JUMP, label=label, place=self.place, number=self.count))
-        return label, made
-
-    def rearrange(self, goal, have):
-        """Moves variables from where they are to where they are wanted."""
-        moves = {}
-        for v, to in goal.items():
-            at = have.get(v)
-            if to == "stack" and at is None:
-                self.op(0x62 if self.is_small(v) else 0x7A, 10, 0, self.slot(v))
-            elif to == "stack" and at != "stack":
-                self.save(v, at)
-            elif isinstance(to, int) and isinstance(at, int) and at != to:
-                moves[to] = at
-        late = self.permute(moves, goal, have)
-        for v, to in goal.items():
-            at = have.get(v)
-            if isinstance(to, int) and at == "stack":
-                self.restore(v, to)
-            elif isinstance(to, int) and at is None:
-                self.op(CONSTANT, to)
-        for to, spare in late:
-            self.op(0x79, to, 10, spare)
-
-    def permute(self, moves, goal, have):
-        """Moves registers to others, each as {to: from}. The result are those that wait on the stack, and where."""
-        late, entries = [], {p for v, p in have.items() if v.kind == "entry"}
-        while moves:
-            ready = [to for to in moves if to not in moves.values()]
-            if ready:
-                for to in ready:
-                    self.op(MOVE, to, moves.pop(to))
-                continue
-            taken = {p for p in (*moves, *moves.values(), *goal.values(), *(have.get(v) for v in goal)) if isinstance(p, int)}
-            free = [p for p in range(10) if p not in taken]
-            if free:
-                at = next(iter(moves.values()))
-                self.op(MOVE, free[0], at)
-                moves.update({to: free[0] for to, source in moves.items() if source == at})
-                continue
-            able = [(to, at) for to, at in moves.items() if at not in entries]
-            if not able:
-                raise Refused("the code has no register by which others are exchanged")
-            to, at = able[0]
-            spare = self.slot(Variable("spare", len(late)))
-            self.op(0x7B, 10, at, spare)
-            late.append((to, spare))
-            del moves[to]
-        return late

@@ -1,11 +1,14 @@
 """What is known at one place of the code: of each variable, of the stack's bytes, and of the record's lengths."""
-import itertools
-
-from .bounds import Bounds, Held, joined_terms, negated, turned
+from .bounds import Bounds, Held
 from .code import Variable
-from .values import LENGTH_TERMS, LIMIT, M64, MIXED, Value, added, joined, number, small, summed
+from .meeting import Meeting
+from .terms import LENGTH_TERMS, plus, turned
+from .values import LIMIT, M64, MIXED, Value, number
 
-LENGTHS = {term for terms in LENGTH_TERMS.values() for term, _ in terms}
+LENGTHS = frozenset(term for terms in LENGTH_TERMS.values() for term, _ in terms)
+# What is known of how numbers came about: of these nothing is forgotten while they are few.
+ORIGINS = ("shifts", "quotients", "multiples", "scales", "remainders")
+FEW_ORIGINS = 16
 
 
 class State(Bounds):
@@ -16,7 +19,9 @@ class State(Bounds):
     `floors` of such terms what they are at least, as a whole number, not modulo 2^64. `shifts` say of terms which number it was
     that was shifted to the left, and by how much; `quotients` of which numbers they are the quotient, `multiples` that they are such
     a quotient times the divisor again, and `scales` with which factor they are at most a region's length. `remainders` say of which
-    length, with a constant added, they are the remainder by what; `grid` by what a length has which remainder."""
+    length, with a constant added, they are the remainder by what; `grid` by what a length has which remainder.
+    States share these last six: who changes one puts another in its place."""
+    __slots__ = ("variables", "memory", "words", "least", "most", "sure", "facts", "floors", "grid", *ORIGINS)
 
     def __init__(self):
         self.variables: dict[Variable, Value] = {}
@@ -26,28 +31,63 @@ class State(Bounds):
         self.sure = dict.fromkeys(LIMIT, 0)
         self.facts: dict[tuple, int] = {}
         self.floors: dict[tuple, int] = {}
+        self.grid = dict.fromkeys(LIMIT, (1, 0))
         self.shifts: dict[tuple, tuple[int, Value]] = {}
         self.quotients: dict[tuple, tuple[Value, Value]] = {}
         self.multiples: dict[tuple, tuple[Value, Value]] = {}
         self.scales: dict[tuple, tuple[str, int]] = {}
         self.remainders: dict[tuple, tuple[str, int, int]] = {}
-        self.grid = dict.fromkeys(LIMIT, (1, 0))
 
     def copy(self):
-        s = State()
-        s.variables, s.memory, s.words = dict(self.variables), dict(self.memory), dict(self.words)
-        s.least, s.most, s.sure, s.facts, s.floors = dict(self.least), dict(self.most), dict(self.sure), dict(self.facts), dict(self.floors)
-        s.shifts, s.quotients, s.multiples, s.scales = dict(self.shifts), dict(self.quotients), dict(self.multiples), dict(self.scales)
-        s.remainders, s.grid = dict(self.remainders), dict(self.grid)
+        s = State.__new__(State)
+        s.variables, s.memory, s.words = self.variables.copy(), self.memory.copy(), self.words.copy()
+        s.least, s.most, s.sure = self.least.copy(), self.most.copy(), self.sure.copy()
+        s.facts, s.floors, s.grid = self.facts.copy(), self.floors.copy(), self.grid
+        s.shifts, s.quotients, s.multiples = self.shifts, self.quotients, self.multiples
+        s.scales, s.remainders = self.scales, self.remainders
         return s
+
+    def join(self, other):
+        """What is known where two ways meet."""
+        return Meeting(self, other, State()).state()
+
+    def note(self, origin, terms, what):
+        """How a number came about that has these terms."""
+        setattr(self, origin, {**getattr(self, origin), terms: what})
+
+    # ---- what is forgotten
 
     def keep(self, names):
         """Forgets variables but these, and what is known of numbers that nothing has."""
-        self.variables = {name: self.variables[name] for name in names if name in self.variables}
-        held = (held.value for held in self.memory.values() if held.value is not None)
-        used = {term for v in itertools.chain(self.variables.values(), held) for term, _ in v.terms or ()} | LENGTHS
-        self.facts = {key: k for key, k in self.facts.items() if all(term in used for term, _ in key[0])}
-        self.floors = {terms: k for terms, k in self.floors.items() if all(term in used for term, _ in terms)}
+        variables, used = self.variables, set(LENGTHS)
+        self.variables = kept = {name: variables[name] for name in names if name in variables}
+        for v in kept.values():
+            for term, _ in v.terms or ():
+                used.add(term)
+        for _, v in self.memory.values():
+            if v is not None and v.terms:
+                used.update([term for term, _ in v.terms])
+        # Most are of one number, which is looked for here at once.
+        self.facts = {key: k for key, k in self.facts.items() if key[0][0][0] in used and (len(key[0]) == 1 or are_used(key[0], used))}
+        self.floors = {terms: k for terms, k in self.floors.items() if terms[0][0] in used and (len(terms) == 1 or are_used(terms, used))}
+        if len(self.shifts) + len(self.quotients) + len(self.multiples) + len(self.scales) + len(self.remainders) > FEW_ORIGINS:
+            self._keep_origins(used)
+
+    def _keep_origins(self, used):
+        """Forgets how numbers came about that nothing has, not even what others came of."""
+        known = {origin: getattr(self, origin) for origin in ORIGINS}
+        kept: dict[str, dict] = {origin: {} for origin in ORIGINS}
+        more = True
+        while more:
+            more = False
+            for origin, held in known.items():
+                for terms, what in held.items():
+                    if terms not in kept[origin] and are_used(terms, used):
+                        kept[origin][terms] = what
+                        used.update([term for part in what if isinstance(part, Value) for term, _ in part.terms or ()])
+                        more = True
+        for origin, held in kept.items():
+            setattr(self, origin, held)
 
     def name_sum(self, terms):
         """Gives a sum of many numbers a new number, by which it is known from now on."""
@@ -55,95 +95,13 @@ class State(Bounds):
         without = turned(terms)
 
         def renamed(others):
-            rest = joined_terms(others, without) if others is not None and len(others) >= len(terms) else None
-            return others if rest is None or len(rest) > len(others) - len(terms) else joined_terms(rest, new)
+            rest = plus(others, without) if others is not None and len(others) >= len(terms) else None
+            return others if rest is None or len(rest) > len(others) - len(terms) else plus(rest, new)
 
         self.variables = {name: v._replace(terms=renamed(v.terms)) for name, v in self.variables.items()}
         self.memory = {at: held if held.value is None else Held(held.size, held.value._replace(terms=renamed(held.value.terms))) for at, held in self.memory.items()}
         self.facts = {(renamed(key), region): k for (key, region), k in self.facts.items()}
         self.floors = {renamed(key): k for key, k in self.floors.items()}
-
-    # ---- ways that meet
-
-    def join(self, other):
-        s, related = State(), {}
-        s.facts = {x: min(k, other.facts[x]) for x, k in self.facts.items() if x in other.facts}
-        s.floors = {x: min(k, other.floors[x]) for x, k in self.floors.items() if x in other.floors}
-        for name in ("shifts", "quotients", "multiples", "scales", "remainders"):
-            setattr(s, name, dict(getattr(self, name).items() & getattr(other, name).items()))
-        for v, mine in self.variables.items():
-            both = self._joined(s, related, mine, other, other.variables.get(v))
-            if both is not None:
-                s.variables[v] = both
-        self._join_parts(s, other)
-        self._join_order(s, other)
-        for at, (size, mine) in self.memory.items():
-            theirs = other.memory.get(at)
-            if theirs and theirs.size == size:
-                s.memory[at] = Held(size, self._joined(s, related, mine, other, theirs.value))
-        s.least = {r: min(self.least[r], other.least[r]) for r in LIMIT}
-        s.most = {r: max(self.most[r], other.most[r]) for r in LIMIT}
-        s.sure = {r: min(self.sure[r], other.sure[r]) for r in LIMIT}
-        s.grid = {r: self.grid[r] if self.grid[r] == other.grid[r] else (1, 0) for r in LIMIT}
-        s.words = {at: self._word(other, at) for at in self.words.keys() | other.words.keys()}
-        return s
-
-    def _joined(self, s, related, mine, other, theirs):
-        """What is known of a number on both ways. Where it is new, so are its terms; but numbers that differ by one constant on both
-        ways still do, and so do those whose sum is one constant on both ways, or a length and a constant. `related` has of what they
-        are on both ways, and of what they are negated or with a length, the new terms and the first one's constant."""
-        if mine is None or theirs is None:
-            return None
-        if mine == theirs:
-            return mine
-        if (mine.terms, mine.c) != (theirs.terms, theirs.c):
-            mine, theirs = self.current(mine), other.current(theirs)
-        both = joined(mine, theirs)
-        if both.region != mine.region or both.terms is None or both.terms in (mine.terms, theirs.terms):
-            return both
-        key = mine.terms or (), theirs.terms or (), (mine.c - theirs.c) & M64
-        if key in related:
-            terms, c = related[key]
-            return both._replace(terms=terms, c=(mine.c - c) & M64)
-        for more in ((), *LENGTH_TERMS.values(), *map(turned, LENGTH_TERMS.values())):
-            for terms, c in ((both.terms, mine.c), (turned(both.terms), -mine.c & M64)):
-                first, second = (key[0], key[1]) if terms is both.terms else (turned(key[0]), turned(key[1]))
-                step = key[2] if terms is both.terms else -key[2] & M64
-                related.setdefault((joined_terms(first, more), joined_terms(second, more), step), (joined_terms(terms, more), c))
-        for region in LIMIT:
-            s.keep_fact(both.terms, region, (self.slack(mine, region), other.slack(theirs, region)), 0)
-            s.keep_fact(turned(both.terms), region, (self.slack(negated(mine), region), other.slack(negated(theirs), region)), 0)
-        return both
-
-    def _join_parts(self, s, other):
-        """Of two numbers of which one is not the same on both ways, as the place and the length of a part of the record: how far their
-        sum is from the record's end."""
-        known = [(v, both) for v, both in s.variables.items() if both.terms is not None and both.region in (None, *LIMIT)]
-        new = [pair for pair in known if pair[1].terms != self.variables[pair[0]].terms]
-        for (v, x), (w, y) in itertools.product(new, known):
-            if x.region is not None and y.region is not None:
-                continue
-            for region in LIMIT if x.region is None and y.region is None else (x.region or y.region,):
-                if any((summed(side.variables[v], side.variables[w], 1), region) in side.facts for side in (self, other)):
-                    slacks = [side.whole_slack(added(side.variables[v].in_region(None), side.variables[w].in_region(None)), region) for side in (self, other)]
-                    s.keep_fact(summed(x, y, 1), region, slacks, small((x.c + y.c) & M64))
-
-    def _join_order(self, s, other):
-        """Of numbers of which one is not the same on both ways: how much at least the one is more than the other."""
-        known = [(v, both) for v, both in s.variables.items() if both.terms is not None and 0 <= both.lo and both.hi <= LIMIT["value"]]
-        new = [pair for pair in known if pair[1].terms != self.variables[pair[0]].terms]
-        for (v, x), (w, y) in itertools.product(new, known):
-            if x.terms == y.terms or x.region != y.region:
-                continue
-            for (one, p), (two, q) in (((v, x), (w, y)), ((w, y), (v, x))):
-                least = min(side.least_difference(side.variables[one], side.variables[two]) for side in (self, other))
-                if least > p.lo - q.hi:
-                    terms, least = summed(p, q, -1), least - small(p.c) + small(q.c)
-                    s.floors[terms] = max(least, s.floors.get(terms, least))
-
-    def _word(self, other, at):
-        mine, theirs = self.words.get(at, other.words.get(at)), other.words.get(at, self.words.get(at))
-        return mine if mine == theirs else MIXED
 
     # ---- the stack
 
@@ -171,3 +129,10 @@ class State(Bounds):
                     return held.value.lo >> 8 * (place - at) & 255
                 return None
         return None
+
+
+def are_used(terms, used):
+    for term, _ in terms or ():
+        if term not in used:
+            return False
+    return True

@@ -2,23 +2,16 @@
 
 Numbers are taken modulo 2^64, so an interval may begin below 0: -2 to 3 is 2^64 - 2 to 2^64 - 1 and 0 to 3. Of an address the region
 is known, and the number is the offset in it."""
-import itertools
+import functools
 from typing import NamedTuple
 
 from second_machine import computed
 
+from .terms import LENGTH_TERMS, MOST_TERMS, Terms, fresh, plus, region_of, turned
+
 M64 = (1 << 64) - 1
 M32 = (1 << 32) - 1
 LIMIT = {"key": 4096, "value": 1048576}
-
-# Unknown numbers have a number of their own, from 0 on; these two are the record's lengths.
-VALUE_LENGTH, KEY_LENGTH = -1, -2
-fresh = itertools.count().__next__
-MOST_TERMS = 12
-
-Terms = tuple[tuple[int, int], ...]
-LENGTH_TERMS: dict[str, Terms] = {"value": ((VALUE_LENGTH, 1),), "key": ((KEY_LENGTH, 1),)}
-REGION_OF = {terms: region for region, terms in LENGTH_TERMS.items()}
 
 # A region: "value", "key" or "stack"; ("constants", section); ("minus", region) of a negated address; MIXED of one of several.
 MIXED = "mixed"
@@ -38,10 +31,14 @@ class Value(NamedTuple):
 
     def length_region(self):
         """The region whose length it is but for a constant, or None."""
-        return REGION_OF.get(self.terms)
+        return region_of(self.terms)
 
     def in_region(self, region):
-        return self._replace(region=region)
+        return self if self.region is region else made((region, *self[1:]))
+
+
+# A value of its six parts in a tuple, which takes half the time that a call of Value does.
+made = functools.partial(tuple.__new__, Value)
 
 
 def window(lo, hi, bits=64):
@@ -64,17 +61,25 @@ def small(c):
 
 def const(n, region=None):
     n &= M64
-    return Value(region, n, n, n, None, n)
+    return made((region, n, n, n, None, n))
 
 
 def number(lo, hi, mask=None, terms=None, c=0, region=None):
     """A number of an interval; a new unknown one, if it is not said of which terms it is."""
-    lo, hi = window(lo, hi)
+    if lo < 0 or hi > M64:
+        lo, hi = window(lo, hi)
     if lo == hi:
         return const(lo, region)
-    most = (1 << hi.bit_length()) - 1 if lo >= 0 else M64
-    mask = most if mask is None else mask & most
-    return Value(region, lo, min(hi, mask) if lo >= 0 else hi, mask, ((fresh(), 1),) if terms is None else terms, c)
+    if lo >= 0:
+        most = (1 << hi.bit_length()) - 1
+        mask = most if mask is None else mask & most
+        if mask < hi:
+            hi = mask
+    elif mask is None:
+        mask = M64
+    else:
+        mask &= M64
+    return made((region, lo, hi, mask, ((fresh(), 1),) if terms is None else terms, c))
 
 
 def length(region):
@@ -115,10 +120,17 @@ def signed32(v):
 
 def summed(a, b, sign):
     """The terms of a sum or a difference: none if they cancel, a new one if they are too many."""
-    factors = dict(a.terms or ())
-    for term, factor in b.terms or ():
-        factors[term] = small((factors.get(term, 0) + sign * factor) & M64)
-    terms = tuple(sorted((term, factor) for term, factor in factors.items() if factor))
+    x, y = a.terms, b.terms
+    if not y:
+        return x or ()
+    if sign < 0:
+        y = turned(y)
+    if not x:
+        return y
+    terms = plus(x, y)
+    if len(terms) < len(x) + len(y):
+        # Factors are added, modulo 2^64 too.
+        terms = tuple([(term, low) for term, factor in terms if (low := small(factor & M64))])
     return terms if len(terms) <= MOST_TERMS else ((fresh(), 1),)
 
 

@@ -5,7 +5,8 @@ from typing import NamedTuple
 from .code import FRAME, LENGTH, OUTSIDE, TRAPS, Goto, Move, Operand, Variable, register
 from .program import STACK, Place, Program, Refused
 from .state import State
-from .values import MIXED, REGION_OF, Value, const
+from .terms import region_of
+from .values import MIXED, Value, const
 
 
 class TooLong(Exception):
@@ -57,6 +58,7 @@ class Writer:
         if self.used > STACK:
             raise Refused(f"the functions' variables take {self.used} bytes, and the stack has {STACK}", program.line(program.entry))
         self.copies = {path: k for k, path in enumerate(sorted(self.tops, key=lambda p: (len(p), p)))}
+        self.names = self.names_of(program.entry.path)  # of the function that is written
         self._lay_out_stack()
 
     def _lay_out_stack(self):
@@ -124,14 +126,18 @@ class Writer:
 
     # ---- operands
 
+    def names_of(self, path):
+        """The variables of the registers in a copy of a function."""
+        return [register(r) if r < 6 else register(r, self.copies[path]) for r in range(11)]
+
     def name(self, r):
-        return register(r) if r < 6 else register(r, self.copies[self.here.path])
+        return self.names[r]
 
     def known(self, s: State, r):
         """What is known of a register."""
         if r == 10:
             return const(self.tops[self.here.path], "stack")
-        v = s.variables.get(self.name(r))
+        v = s.variables.get(self.names[r])
         if v is None:
             self.fail("a variable is read that may not be set: give it a value where it is declared")
         return s.settled(v)
@@ -148,7 +154,8 @@ class Writer:
         """A number that is known, a length, or a variable."""
         if v.is_const():
             return v.lo
-        return LENGTH[REGION_OF[v.terms]] if v.terms in REGION_OF and v.c == 0 else name
+        region = region_of(v.terms) if v.c == 0 else None
+        return LENGTH[region] if region else name
 
     def set(self, s: State, r, v):
         s.variables[self.name(r)] = v

@@ -14,7 +14,7 @@ from typing import Callable, NamedTuple
 if __name__ == "__main__":
     sys.path[0] = os.path.dirname(os.path.dirname(os.path.dirname(os.path.realpath(__file__))))
 
-from klogc import bounds, calls, code, jumps, layout, memory, numbers, program, registers, state, values
+from klogc import bounds, calls, choice, code, jumps, layout, memory, numbers, places, program, state, values, ways
 from klogc.compiler import Compiler
 from klogc.program import Refused
 from klogc.tests.compare import PROGRAMS_IN_ONE, compared
@@ -58,10 +58,10 @@ FAULTS = [
     Fault("32 bits are as 64", numbers, "fits", lambda old: lambda name, v, w: True),
     Fault("what is stored is not read", code, "READ", lambda old: {**old, code.Store: (1,)}),
     Fault("what is compared is not read", code, "READ", lambda old: {**old, code.Test: (2,)}),
-    Fault("words of four bytes are read as eight", registers.Places, "restore", lambda old: lambda self, v, p: self.op(0x79, p, 10, self.slot(v))),
-    Fault("registers are exchanged one by one", registers.Allocator, "permute", lambda old: one_by_one),
-    Fault("calls keep nothing", registers.Allocator, "make_free", lambda old: lambda self, p, avoid=(), among=range(10): self.drop(self.held[p]) if p in self.held else None),
-    Fault("variables share a place", registers.Places, "slot", lambda old: lambda self, v: old(self, v) if v.kind == "slot" else self.spill_at - 512),
+    Fault("words of four bytes are read as eight", places.Places, "restore", lambda old: lambda self, v, p: self.op(0x79, p, 10, self.slot(v))),
+    Fault("registers are exchanged one by one", ways.Ways, "permute", lambda old: one_by_one),
+    Fault("calls keep nothing", choice.Choice, "make_free", lambda old: lambda self, p, avoid=(), among=range(10): self.drop(self.held[p]) if p in self.held else None),
+    Fault("variables share a place", places.Places, "slot", lambda old: lambda self, v: old(self, v) if v.kind == "slot" else self.spill_at - 512),
     Fault("constants are zeros", layout, "filled", lambda old: lambda data: old(dict.fromkeys(data, 0))),
     Fault("functions share their stack", program.Program, "tops", lambda old: lambda self: (dict.fromkeys(old(self)[0], old(self)[1]), old(self)[1])),
     Fault("a part is copied of the key", calls, "LOADS", lambda old: {1: "key", 2: "value"}),
@@ -82,7 +82,7 @@ def plus_one(made):
 
 def one_by_one(self, moves, goal, have):
     for to, at in moves.items():
-        self.op(registers.MOVE, to, at)
+        self.op(places.MOVE, to, at)
     return []
 
 
