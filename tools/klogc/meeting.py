@@ -21,7 +21,7 @@ class Meeting:
         one, other, both = self.one, self.other, self.both
         both.facts, both.floors = least_of(one.facts, other.facts), least_of(one.floors, other.floors)
         both.shifts, both.quotients, both.multiples = same(one.shifts, other.shifts), same(one.quotients, other.quotients), same(one.multiples, other.multiples)
-        both.scales, both.remainders = same(one.scales, other.scales), same(one.remainders, other.remainders)
+        both.complements, both.scales, both.remainders = same(one.complements, other.complements), same(one.scales, other.scales), same(one.remainders, other.remainders)
         new = self._variables()
         if new:
             self._parts(new)

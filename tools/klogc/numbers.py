@@ -155,15 +155,17 @@ def related(s: State, name, width, operands, known):
         if divisor.is_const() and v.length_region() and v.c == 0:
             s.note("scales", known.terms, (v.length_region(), divisor.lo))
     elif name == "mul":
-        multiplied(s, v, w, known)
-        multiplied(s, w, v, known)
+        multiplied(s, (v, w), known, width)
+        multiplied(s, (w, v), known, width)
     elif name == "lsh" and w.is_const():
-        multiplied(s, v, power(w, width), known)
+        multiplied(s, (v, power(w, width)), known, width)
     elif name == "sub":
-        known = s.difference(remainder(s, v, w, known), v, w) if width == 64 else remainder(s, v, w, known)
-    elif name == "add" and width == 64:
+        known = remainder(s, v, s.multiples.get(w.terms) if w.c == 0 else None, known)
+        known = s.difference(known, v, w) if width == 64 else known
+    elif name == "add":
         for n, less in ((v, w), (w, v)):
-            known = s.difference(known, n, added(const(0), less, -1)) if signed(less)[1] < 0 else known
+            known = remainder(s, n, s.complements.get((less.terms, width)) if less.c == 0 else None, known)
+            known = s.difference(known, n, added(const(0), less, -1)) if width == 64 and signed(less)[1] < 0 else known
     elif name == "mod" and w.lo > 0:
         s.learn(known, w, True)
     divisor = w.lo + (name == "and") if w.is_const() and name in ("and", "mod") else 0
@@ -177,16 +179,21 @@ def power(count, width):
     return const(1 << count.lo % width)
 
 
-def multiplied(s: State, quotient, factor, known):
-    """A quotient times its divisor is the dividend without the remainder."""
+def multiplied(s: State, factors, known, width):
+    """A quotient times its divisor is the dividend without the remainder. Times the negated divisor it is what that lacks to 2^width."""
+    quotient, factor = factors
     of, by = s.quotients.get(quotient.terms, (None, None)) if quotient.c == 0 else (None, None)
-    if of is not None and same(by, factor) and known.c == 0:
+    if of is None or known.c:
+        return
+    if same(by, factor):
         s.note("multiples", known.terms, (of, by))
+    elif by.is_const() and factor.is_const() and factor.lo == -by.lo % (1 << width):
+        s.note("complements", (known.terms, width), (of, by))
 
 
-def remainder(s: State, v, w, known):
-    """What is known of v - w: where w is a multiple of a divisor, made of v, it is the remainder."""
-    of, by = s.multiples.get(w.terms, (None, None)) if w.c == 0 else (None, None)
+def remainder(s: State, v, multiple, known):
+    """What is known of v less a multiple of a divisor, or with what that lacks to 2^width: if that was made of v, the remainder."""
+    of, by = multiple or (None, None)
     if of is None or not same(of, v) or by.lo <= 0:
         return known
     known = number(0, min(unsigned(v)[1], unsigned(by)[1] - 1))

@@ -7,7 +7,7 @@ from .values import LIMIT, M64, MIXED, Value, number
 
 LENGTHS = frozenset(term for terms in LENGTH_TERMS.values() for term, _ in terms)
 # What is known of how numbers came about: of these nothing is forgotten while they are few.
-ORIGINS = ("shifts", "quotients", "multiples", "scales", "remainders")
+ORIGINS = ("shifts", "quotients", "multiples", "complements", "scales", "remainders")
 FEW_ORIGINS = 16
 
 
@@ -18,9 +18,9 @@ class State(Bounds):
     `facts` say of terms and a region what may be added to the terms so that the sum is still at most the region's length, and
     `floors` of such terms what they are at least, as a whole number, not modulo 2^64. `shifts` say of terms which number it was
     that was shifted to the left, and by how much; `quotients` of which numbers they are the quotient, `multiples` that they are such
-    a quotient times the divisor again, and `scales` with which factor they are at most a region's length. `remainders` say of which
-    length, with a constant added, they are the remainder by what; `grid` by what a length has which remainder.
-    States share these last six: who changes one puts another in its place."""
+    a quotient times the divisor again, `complements` of terms and a width that they are what this lacks to 2^width, and `scales` with
+    which factor they are at most a region's length. `remainders` say of which length, with a constant added, they are the remainder by
+    what; `grid` by what a length has which remainder. States share these last seven: who changes one puts another in its place."""
     __slots__ = ("variables", "memory", "words", "least", "most", "sure", "facts", "floors", "grid", *ORIGINS)
 
     def __init__(self):
@@ -35,6 +35,7 @@ class State(Bounds):
         self.shifts: dict[tuple, tuple[int, Value]] = {}
         self.quotients: dict[tuple, tuple[Value, Value]] = {}
         self.multiples: dict[tuple, tuple[Value, Value]] = {}
+        self.complements: dict[tuple, tuple[Value, Value]] = {}
         self.scales: dict[tuple, tuple[str, int]] = {}
         self.remainders: dict[tuple, tuple[str, int, int]] = {}
 
@@ -44,7 +45,7 @@ class State(Bounds):
         s.least, s.most, s.sure = self.least.copy(), self.most.copy(), self.sure.copy()
         s.facts, s.floors, s.grid = self.facts.copy(), self.floors.copy(), self.grid
         s.shifts, s.quotients, s.multiples = self.shifts, self.quotients, self.multiples
-        s.scales, s.remainders = self.scales, self.remainders
+        s.complements, s.scales, s.remainders = self.complements, self.scales, self.remainders
         return s
 
     def join(self, other):
@@ -52,7 +53,7 @@ class State(Bounds):
         return Meeting(self, other, State()).state()
 
     def note(self, origin, terms, what):
-        """How a number came about that has these terms."""
+        """How a number came about that has these terms, or terms and a width."""
         setattr(self, origin, {**getattr(self, origin), terms: what})
 
     # ---- what is forgotten
@@ -70,7 +71,7 @@ class State(Bounds):
         # Most are of one number, which is looked for here at once.
         self.facts = {key: k for key, k in self.facts.items() if key[0][0][0] in used and (len(key[0]) == 1 or are_used(key[0], used))}
         self.floors = {terms: k for terms, k in self.floors.items() if terms[0][0] in used and (len(terms) == 1 or are_used(terms, used))}
-        if len(self.shifts) + len(self.quotients) + len(self.multiples) + len(self.scales) + len(self.remainders) > FEW_ORIGINS:
+        if sum([len(getattr(self, origin)) for origin in ORIGINS]) > FEW_ORIGINS:
             self._keep_origins(used)
 
     def _keep_origins(self, used):
@@ -82,7 +83,7 @@ class State(Bounds):
             more = False
             for origin, held in known.items():
                 for terms, what in held.items():
-                    if terms not in kept[origin] and are_used(terms, used):
+                    if terms not in kept[origin] and are_used(terms[0] if origin == "complements" else terms, used):
                         kept[origin][terms] = what
                         used.update([term for part in what if isinstance(part, Value) for term, _ in part.terms or ()])
                         more = True

@@ -58,6 +58,8 @@ ACCEPTED = [
      "\n\t\t} else {\n\t\t\tall++;\n\t\t\ti++;\n\t\t}\n\t}\n\treturn all + 3;", [(Record(b"k", b"a%bcd"), 98 * 99 + 5), (Record(b"k", b"a%b"), 2), (Record(b"k", b"a" * 20), 23)]),
     ("smaller_end", "\tu64 start = 0;\n\tfor (u64 i = 0; i < 4 && i + 2 <= value_length; i++)\n\t\tif (value[i] == ':') {\n\t\t\tstart = i + 1;\n\t\t\tbreak;\n\t\t}\n\tif (!start)\n\t\treturn 1;\n\tu64 end = value_length < start + 6 ? value_length : start + 6;"
      "\n\tfor (u64 i = start; i < end; i++)\n\t\tif (value[i] == '/')\n\t\t\treturn i;\n\treturn 99;", [(Record(b"k", b"ab:c/"), 4), (Record(b"k", b":aaaaaaaaaaa/"), 99), (Record(b"k", b"a:"), 1)]),
+    ("base58", "\tstatic const char digits[] = \"123456789ABCDEFGHJKLMNPQRSTUVWXYZabcdefghijkmnopqrstuvwxyz\";\n\tif (value_length < 4)\n\t\treturn 1;\n\tu64 all = 0;"
+     "\n\tfor (u32 n = *(const u32 *)value; n; n /= 58)\n\t\tall = all * 256 + digits[n % 58];\n\treturn all;", [(Record(b"k", (58 * 57 + 9).to_bytes(4, "little")), 256 * ord("A") + ord("z")), (Record(b"k", bytes(4)), [])]),
     ("no_room", "\tu8 to[4] = {0};\n\treturn 5 + load_value(to, 3, value_length & 0);", [(Record(b"k", b"ab"), 6), (Record(b"k", b"abc"), 5)]),
 ]
 
