@@ -191,7 +191,9 @@ class Maker:
         r, v = self.r, self.variable()
         call = r.choice(("emit_null(2);", "c += record_partition();", "load_key(w, 0, 8);", "emit_value(3, buf, 1);"))
         at = r.randrange(24)
-        match r.randrange(7):
+        match r.randrange(9):
+            case 7 | 8:
+                return self.words(call)
             case 5:
                 n = self.index("n")
                 return (f"{{ u64 {n} = ({self.variable()} & 15) + {r.choice((250, 254, 509))}; {v} ^= {n}; buf[{at}] = {n}; emit_value(7, buf, 4); {call}"
@@ -209,6 +211,12 @@ class Maker:
             case 3:
                 return f"kept = {self.expression(2)}; near ^= x; {call} {v} ^= (u64)kept + (kept >> 3) + ((u64)near << 3);"
         return f"far = {self.expression(2)}; {call} {v} ^= far; far += {self.variable()};"
+
+    def words(self, call):
+        """More words of four bytes beside each other than there are registers that a call keeps."""
+        n = self.index("n")
+        put = " ".join(f"{n}[{k}] = {self.variable()} + {k + 1};" for k in range(6))
+        return f"{{ volatile u32 {n}[6]; {put} {call} w[0] ^= {' + '.join(f'((u64){n}[{k}] << {k})' for k in range(6))}; }}"
 
     def tested(self):
         """What is known of a number decides a test on it."""
