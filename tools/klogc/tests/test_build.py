@@ -14,6 +14,7 @@ from klogc.meaning import Record, Run
 from klogc.program import Program, Refused
 
 KLOGC = os.path.join(os.path.dirname(os.path.dirname(os.path.abspath(__file__))), "klogc")
+TOP = os.path.dirname(os.path.dirname(os.path.dirname(KLOGC)))
 HEAD = '#include "klog.h"\n#include <string.h>\n'
 ENTRY = "u64 %s(const u8 *value, u64 value_length, const u8 *key, u64 key_length, u64 nulls)\n{\n%s\n}\n"
 
@@ -125,6 +126,17 @@ class Words(unittest.TestCase):
 
     def call(self, *words, given=""):
         return subprocess.run([sys.executable, KLOGC, *words], input=given, capture_output=True, text=True, check=False)
+
+    def test_same_each_time(self):
+        """An image doesn't depend on the order in which Python has the elements of a set."""
+        source, images = os.path.join(TOP, "examples", "c", "natural", "geohash.c"), set()
+        with tempfile.TemporaryDirectory() as folder:
+            target = os.path.join(folder, "it.bin")
+            for seed in ("1", "2", "3"):
+                subprocess.run([sys.executable, KLOGC, "build", source, "--image", "-o", target], env={**os.environ, "PYTHONHASHSEED": seed}, capture_output=True, check=True)
+                with open(target, "rb") as it:
+                    images.add(it.read())
+        self.assertEqual(len(images), 1)
 
     def test_no_traceback(self):
         with tempfile.TemporaryDirectory() as folder:
