@@ -33,9 +33,11 @@ class Bounds:
             self.facts[terms, region] = min(slacks) + c
             self.floors[terms] = max(-c, self.floors.get(terms, -c))
 
-    def least_difference(self, v, w, parts=None):
-        """The least that v - w is known to be, of two that are not negative. `parts` are parts_of the floors, for who asks often."""
-        least = self._ends(v)[0] - self._ends(w)[1]
+    def least_difference(self, v, w, least=None, parts=None):
+        """The least that v - w is known to be, of two that are not negative. For who asks often: `least` is what it is by their ends,
+        and `parts` are parts_of the floors."""
+        if least is None:
+            least = self.ends(v)[0] - self.ends(w)[1]
         c = small(v.c) - small(w.c)
         if v.terms == w.terms:
             return max(least, c)
@@ -46,7 +48,7 @@ class Bounds:
         slack = self.slack(w, region) if region else None
         return least if slack is None else max(least, slack + small(v.c))
 
-    def _ends(self, v):
+    def ends(self, v):
         """The bounds of current(v)."""
         if not has_length(v.terms):
             return v.lo, v.hi
@@ -126,7 +128,8 @@ class Bounds:
 
     def settled(self, v):
         """A number with the bounds that its terms are known to have."""
-        if has_length(v.terms) and region_of(v.terms):
+        terms = v.terms
+        if terms and terms[0][0] < 0 and region_of(terms):
             return self.current(v)
         if 0 <= v.lo and v.hi < HALF or v.terms not in self.floors or abs(small(v.c)) >= FAR:
             return v
@@ -267,6 +270,12 @@ class Bounds:
 
     def _narrow_length(self, region, c, lo, hi):
         least, most = self.least[region], self.most[region]
+        if -FAR < lo - c and hi - c < FAR:
+            low, high = max(lo - c, least), min(hi - c, most)
+            if low > high:
+                return False
+            self.least[region], self.most[region] = low, high
+            return self._settle_lengths()
         ends = [(max(lo - c + k, least), min(hi - c + k, most)) for k in (0, 1 << 64, -1 << 64)]
         ends = [(low, high) for low, high in ends if low <= high]
         if ends:

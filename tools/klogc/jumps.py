@@ -198,9 +198,8 @@ def is_impossible(s: State, holds, test: Comparison):
 
 
 def is_above(s: State, v, w, or_equal):
-    """Whether v is known to be more than w, or perhaps equal to it."""
-    now, other = s.settled(v), s.settled(w)
-    if now.terms and other.terms and max(now.hi, other.hi) <= LIMIT["value"] and s.least_difference(now, other) > -or_equal:
+    """Whether v is known to be more than w, or perhaps equal to it. Both have the bounds that they have in this state."""
+    if v.terms and w.terms and max(v.hi, w.hi) <= LIMIT["value"] and s.least_difference(v, w, v.lo - w.hi) > -or_equal:
         return True
     gap = s.gap(w, v)
     return gap is not None and gap > -or_equal

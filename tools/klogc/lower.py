@@ -58,22 +58,21 @@ def lowered(program, rounds, strict, slots, fine) -> Lowered:
     Of a loop in a loop the copies are many, and few where both are one; but then less is known of where each of them is. So both
     forms are tried, with few slots first."""
     learned = {False: Learned(), True: Learned()} if program.order().places != program.order(True).places else {False: Learned()}
-    refusals = []
+    refusals, stopped = [], {}
     for most in sorted({min(FEW_SLOTS, slots), slots}):
         for flat in sorted(learned):
             try:
-                lowering, image = tried(program, Settings({}, most, strict, flat, fine), learned[flat])
+                lowering, image = tried(program, Settings({}, most, strict, flat, fine), learned[flat], stopped.get(flat))
             except Refused as refusal:
                 refusals.append(refusal)
                 del learned[flat]
                 continue
             if image:
                 return report(lowering, image)
-            if not flat:
-                nested = lowering
+            stopped[flat] = lowering
     if False not in learned:
         raise refusals[0]
-    return limited(program, rounds, nested)
+    return limited(program, rounds, stopped[False])
 
 
 def limited(program, rounds, lowering):
@@ -87,10 +86,11 @@ def limited(program, rounds, lowering):
     raise Refused("the program has more than 16,384 slots even with few rounds of its loops", program.line(program.entry))
 
 
-def tried(program, settings, learned):
+def tried(program, settings, learned, stopped=None):
     """The pass and its image, with as many places on the stack as its variables take; no image where it has too many slots."""
     while True:
-        lowering, blocks = attempt(program, settings, learned)
+        lowering, blocks = attempt(program, settings, learned, stopped)
+        stopped = None
         if blocks is None:
             return lowering, None
         try:
@@ -101,12 +101,14 @@ def tried(program, settings, learned):
             return lowering, image
 
 
-def attempt(program, settings, learned):
-    """One run of the lowering, begun again with what it learned of the stack; no blocks where they are too many."""
+def attempt(program, settings, learned, stopped=None):
+    """One run of the lowering, begun again with what it learned of the stack; no blocks where they are too many. The first goes on
+    with a run that was stopped because it had too many, if there is one."""
     for _ in range(MOST_RUNS):
-        lowering, blocks = Lowering(program, settings, learned), None
+        lowering, blocks = stopped or Lowering(program, settings, learned), None
+        stopped = None
         try:
-            blocks = lowering.run()
+            blocks = lowering.run(settings)
         except (Refused, TooLong) as end:
             if isinstance(end, Refused) and not lowering.again:
                 raise

@@ -53,8 +53,23 @@ class Lowering(Calls):
         self.arrived = 0
         self.current: Copy | None = None
 
-    def run(self):
-        """The blocks that are written, each a label and its instructions, in an order in which jumps lead forward."""
+    def run(self, settings):
+        """The blocks that are written, each a label and its instructions, in an order in which jumps lead forward. A run that ended
+        because it had too many goes on where it was."""
+        self.settings = settings
+        if not self.blocks:
+            self.enter()
+        while self.queue:
+            _, _, copy = heapq.heappop(self.queue)
+            self.current = copy
+            self.start(copy)
+            self.block(self.program.blocks[copy.place], self.waiting.pop(copy))
+            if self.size > 2 * self.settings.slots:
+                raise TooLong
+        return self.blocks
+
+    def enter(self):
+        """Writes what comes before the function's first block."""
         self.start("entry")
         self.emit(Entry())
         s = State()
@@ -64,14 +79,6 @@ class Lowering(Calls):
             self.emit(Move(register(r), v, 64))
         place = self.program.entry
         self.emit(Goto(self.arrive(place, (0,) * len(self.heads[place]), s)))
-        while self.queue:
-            _, _, copy = heapq.heappop(self.queue)
-            self.current = copy
-            self.start(copy)
-            self.block(self.program.blocks[copy.place], self.waiting.pop(copy))
-            if self.size > 2 * self.settings.slots:
-                raise TooLong
-        return self.blocks
 
     # ---- copies of blocks
 
@@ -96,6 +103,9 @@ class Lowering(Calls):
         return copy
 
     def copy_of(self, place, rounds, variables, kind_of):
+        if kind_of is kind:
+            # Most variables have none, and are not asked one by one.
+            variables = {name: v for name, v in variables.items() if v.region is not None or v.terms == KEY_LENGTH}
         kinds = [(name, str(what)) for name, v in variables.items() if (what := kind_of(v)) is not None]
         found = place, rounds, tuple(sorted(kinds))
         if found not in self.made_copies:

@@ -129,13 +129,15 @@ class Meeting:
         """Of numbers of which one is not the same on both ways: how much at least the one is more than the other."""
         variables, floors = self.both.variables, self.both.floors
         known = [(name, v) for name, v in variables.items() if v.terms is not None and 0 <= v.lo and v.hi <= LIMIT["value"]]
-        sides = [(side.variables, side.least_difference, parts_of(side.floors)) for side in (self.one, self.other)]
+        sides = []
+        for side in (self.one, self.other):
+            sides.append((side.variables, {name: side.ends(side.variables[name]) for name, _ in known}, side.least_difference, parts_of(side.floors)))
         for v, w in itertools.product([pair for pair in known if pair[0] in new], known):
             (name, x), (second, y) = v, w
             if x.terms == y.terms or x.region != y.region:
                 continue
             for (first, p), (then, q) in (((name, x), (second, y)), ((second, y), (name, x))):
-                least = min([difference(held[first], held[then], parts) for held, difference, parts in sides])
+                least = min([difference(held[first], held[then], ends[first][0] - ends[then][1], parts) for held, ends, difference, parts in sides])
                 if least > p.lo - q.hi:
                     terms, least = summed(p, q, -1), least - small(p.c) + small(q.c)
                     floors[terms] = max(least, floors.get(terms, least))

@@ -71,7 +71,7 @@ class State(Bounds):
         # Most are of one number, which is looked for here at once.
         self.facts = {key: k for key, k in self.facts.items() if key[0][0][0] in used and (len(key[0]) == 1 or are_used(key[0], used))}
         self.floors = {terms: k for terms, k in self.floors.items() if terms[0][0] in used and (len(terms) == 1 or are_used(terms, used))}
-        if sum([len(getattr(self, origin)) for origin in ORIGINS]) > FEW_ORIGINS:
+        if len(self.shifts) + len(self.quotients) + len(self.multiples) + len(self.complements) + len(self.scales) + len(self.remainders) > FEW_ORIGINS:
             self._keep_origins(used)
 
     def _keep_origins(self, used):

@@ -65,7 +65,7 @@ FAULTS = [
     Fault("constants are zeros", layout, "filled", lambda old: lambda data: old(dict.fromkeys(data, 0))),
     Fault("functions share their stack", program.Program, "tops", lambda old: lambda self: (dict.fromkeys(old(self)[0], old(self)[1]), old(self)[1])),
     Fault("a part is copied of the key", calls, "LOADS", lambda old: {1: "key", 2: "value"}),
-    Fault("an order is turned", bounds.Bounds, "least_difference", lambda old: lambda self, v, w, parts=None: old(self, w, v, parts)),
+    Fault("an order is turned", bounds.Bounds, "least_difference", lambda old: lambda self, v, w, least=None, parts=None: old(self, w, v, None, parts)),
     Fault("a length is odd that is even", bounds.Bounds, "divide_length", lambda old: lambda self, region, c, divisor, remainder: old(self, region, c, divisor, remainder + 1)),
     Fault("a test is left out where it is read", layout, "view", lambda old: lambda data, table: old(data, table)._replace(never=some_test(data))),
 ]
