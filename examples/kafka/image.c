@@ -5,7 +5,7 @@
 #include <string.h>
 #include <sys/stat.h>
 
-enum { LONGEST_IMAGE = 131072, FAULT = 64 };
+enum { LONGEST_PROGRAM = 8388608, FAULT = 64 };
 
 static bool is_changed(struct image *image, const int64_t *stamp)
 {
@@ -59,7 +59,7 @@ static bool load(struct image *image, const uint8_t *bytes, size_t length)
 
 bool renew_image(struct image *image)
 {
-	static uint8_t bytes[LONGEST_IMAGE + 1];
+	static uint8_t bytes[LONGEST_PROGRAM];
 	int64_t stamp[4] = {0};
 	struct stat found;
 	FILE *file = fopen(image->name, "rb");

@@ -23,6 +23,10 @@ enum {
 	DIGITS = 16,        /* of a program's SHA-256 that are printed */
 	MOST_KEY = 4096,    /* bytes of an emission's key, and of its value */
 	MOST_VALUE = 1048576,
+	LONGEST_BATCH = 1 << 18, /* bytes of records that are run by one call */
+	LONGEST_HEADER_KEY = 255,
+	LONGEST_HEADER_VALUE = 4096,
+	FRAME = 64,         /* at most what a message has beside its parts, and a header beside its own */
 	TEXT = 512
 };
 
@@ -136,8 +140,11 @@ struct worker {
 
 	unsigned load;
 	char digest[DIGITS + 1];
-	klog_handle program, headers, outcome;
+	klog_handle program, headers, outcome, batches;
 	uint8_t *key, *value; /* of an emission */
+	uint8_t *batch;       /* a record batch that is run */
+	uint8_t *rows;        /* the batches of its outputs, and how many bytes they may take */
+	size_t rows_room;
 	struct counts counts; /* of this transaction */
 	atomic_uint told;     /* skipped records that were printed since the last report */
 	next_step step;       /* what follows, and why */
@@ -179,7 +186,30 @@ bool count_partitions(struct worker *worker, const char *topic, int32_t wanted, 
 
 /* record.c */
 
+/* A message for the client. Null parts are null pointers, and a timestamp below 0 is none. */
+struct output {
+	rd_kafka_topic_t *topic;
+	int32_t partition;
+	int64_t timestamp;
+	const void *key, *value;
+	size_t key_length, value_length;
+	rd_kafka_headers_t *headers;
+};
+
+/* Hands a message to the client, and its headers with it. Where the client's queue is full, some of it is sent first. False
+ * where it fails: the worker's step says what follows. */
+bool produce(struct worker *worker, const struct output *output);
+
+/* Whether records that a program rejects with a code become dead letters. */
+bool is_dead_code(const struct options *options, uint64_t code);
+
 /* Runs the program on a record, and produces what comes out. */
 next_step run_on(struct worker *worker, const rd_kafka_message_t *record);
+
+/* batch.c */
+
+/* Runs the program on the record of a number and on those behind it in its partition, as many as make a batch, and produces
+ * what comes out. These records are destroyed. The number of the next one goes to `*next`, or NONE. */
+next_step run_on_batch(struct worker *worker, uint32_t first, uint32_t *next);
 
 #endif

@@ -12,7 +12,7 @@ static const char USAGE[] =
 	"    [--dead-code CODE]..        a record that the program rejects with CODE goes there too\n"
 	"    [--strict]                  a record that klog can't take ends the process\n"
 	"    [--metrics FILE]            text for Prometheus, each five seconds\n"
-	"    [--table 2]                 the helper table, 1 or 2; 1 if not given\n"
+	"    [--table 2]                 an image's helper table, 1 or 2; 1 if not given\n"
 	"    [--records N]               the most of one transaction, 1 to 1,000,000; 50,000 if not given\n"
 	"    [--seconds S]               the longest wait for as many; 0.5 if not given\n"
 	"    [--set KEY=VALUE]..         a setting of the clients; also --set-consumer and --set-producer\n";
@@ -114,7 +114,7 @@ static void take(struct options *options, int word, const char *value)
 
 void read_options(int argc, char **argv, struct options *options)
 {
-	*options = (struct options){.table = 1, .threads = 1, .records = 50000, .milliseconds = 500};
+	*options = (struct options){.table = KLOG_TABLE_OWN, .threads = 1, .records = 50000, .milliseconds = 500};
 	int word;
 	while ((word = getopt_long(argc, argv, "", WORDS, NULL)) != -1)
 		take(options, word, optarg);

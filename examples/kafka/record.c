@@ -1,11 +1,8 @@
-/* What a member does with a record: all calls of the engine on records are here. */
+/* What a member does with a record by itself. */
 #include "member.h"
 #include <string.h>
 
 enum {
-	LONGEST_HEADER_KEY = 255,
-	LONGEST_HEADER_VALUE = 4096,
-	FRAME = 64,        /* at most what a message has beside its parts, and a header beside its own */
 	TOLD_SKIPS = 10,   /* skipped records that are printed between two reports */
 	DEAD_HEADERS = 4
 };
@@ -100,9 +97,19 @@ static outcome weigh_emissions(struct worker *worker, size_t count, klog_emissio
 	return done;
 }
 
-/* Hands a message to the client, and the headers with it. Where its queue is full, some of it is sent first. */
-static outcome produce(struct worker *worker, const rd_kafka_vu_t *parts, size_t count, rd_kafka_headers_t *headers)
+bool produce(struct worker *worker, const struct output *output)
 {
+	rd_kafka_vu_t parts[7] = {
+		{.vtype = RD_KAFKA_VTYPE_RKT, .u.rkt = output->topic},
+		{.vtype = RD_KAFKA_VTYPE_PARTITION, .u.i32 = output->partition},
+		{.vtype = RD_KAFKA_VTYPE_MSGFLAGS, .u.i = RD_KAFKA_MSG_F_COPY},
+		{.vtype = RD_KAFKA_VTYPE_KEY, .u.mem = {(void *)output->key, output->key_length}},
+		{.vtype = RD_KAFKA_VTYPE_VALUE, .u.mem = {(void *)output->value, output->value_length}}};
+	size_t count = 5;
+	if (output->timestamp >= 0)
+		parts[count++] = (rd_kafka_vu_t){.vtype = RD_KAFKA_VTYPE_TIMESTAMP, .u.i64 = output->timestamp};
+	if (output->headers)
+		parts[count++] = (rd_kafka_vu_t){.vtype = RD_KAFKA_VTYPE_HEADERS, .u.headers = output->headers};
 	rd_kafka_error_t *error;
 	while ((error = rd_kafka_produceva(worker->producer, parts, count)) &&
 	       rd_kafka_error_code(error) == RD_KAFKA_RESP_ERR__QUEUE_FULL) {
@@ -110,14 +117,14 @@ static outcome produce(struct worker *worker, const rd_kafka_vu_t *parts, size_t
 		rd_kafka_poll(worker->producer, 1000);
 	}
 	if (!error)
-		return DONE;
-	if (headers)
-		rd_kafka_headers_destroy(headers);
+		return true;
+	if (output->headers)
+		rd_kafka_headers_destroy(output->headers);
 	/* The transaction has failed already; its end says why. */
 	next_step step = rd_kafka_error_code(error) == RD_KAFKA_RESP_ERR__STATE ? ABORT : END;
 	stop(worker, step, "produce: %s", rd_kafka_error_string(error));
 	rd_kafka_error_destroy(error);
-	return FAILED;
+	return false;
 }
 
 /* The headers of an emission in the client's form, NULL where there are none or memory ran out. */
@@ -155,17 +162,12 @@ static outcome emit(struct worker *worker, size_t number, const klog_emission *e
 		stop(worker, END, "an emission can't be read: status %u", fault);
 		return FAILED;
 	}
-	uint8_t *key = emission->nulls & KLOG_NULL_KEY ? NULL : worker->key;
-	uint8_t *value = emission->nulls & KLOG_NULL_VALUE ? NULL : worker->value;
-	const rd_kafka_vu_t parts[] = {
-		{.vtype = RD_KAFKA_VTYPE_RKT, .u.rkt = worker->outputs[emission->output]},
-		{.vtype = RD_KAFKA_VTYPE_PARTITION, .u.i32 = message->partition},
-		{.vtype = RD_KAFKA_VTYPE_MSGFLAGS, .u.i = RD_KAFKA_MSG_F_COPY},
-		{.vtype = RD_KAFKA_VTYPE_KEY, .u.mem = {key, emission->key_length}},
-		{.vtype = RD_KAFKA_VTYPE_VALUE, .u.mem = {value, emission->value_length}},
-		{.vtype = RD_KAFKA_VTYPE_TIMESTAMP, .u.i64 = timestamp},
-		{.vtype = RD_KAFKA_VTYPE_HEADERS, .u.headers = headers}};
-	return produce(worker, parts, sizeof parts / sizeof parts[0] - (headers == NULL), headers);
+	struct output output = {
+		.topic = worker->outputs[emission->output], .partition = message->partition, .timestamp = timestamp,
+		.key = emission->nulls & KLOG_NULL_KEY ? NULL : worker->key, .key_length = emission->key_length,
+		.value = emission->nulls & KLOG_NULL_VALUE ? NULL : worker->value, .value_length = emission->value_length,
+		.headers = headers};
+	return produce(worker, &output) ? DONE : FAILED;
 }
 
 /* The headers of a dead letter: the record's own, and those that say where it was and why it is here. */
@@ -217,19 +219,15 @@ static outcome bury(struct worker *worker, const rd_kafka_message_t *message, in
 		rd_kafka_headers_destroy(headers);
 		return skip(worker, message, unweighed);
 	}
-	const rd_kafka_vu_t parts[] = {
-		{.vtype = RD_KAFKA_VTYPE_RKT, .u.rkt = worker->dead},
-		{.vtype = RD_KAFKA_VTYPE_PARTITION, .u.i32 = message->partition % worker->dead_partitions},
-		{.vtype = RD_KAFKA_VTYPE_MSGFLAGS, .u.i = RD_KAFKA_MSG_F_COPY},
-		{.vtype = RD_KAFKA_VTYPE_KEY, .u.mem = {message->key, message->key_len}},
-		{.vtype = RD_KAFKA_VTYPE_VALUE, .u.mem = {message->payload, message->len}},
-		{.vtype = RD_KAFKA_VTYPE_HEADERS, .u.headers = headers},
-		{.vtype = RD_KAFKA_VTYPE_TIMESTAMP, .u.i64 = timestamp}};
+	struct output output = {
+		.topic = worker->dead, .partition = message->partition % worker->dead_partitions, .timestamp = timestamp,
+		.key = message->key, .key_length = message->key_len, .value = message->payload, .value_length = message->len,
+		.headers = headers};
 	worker->counts.dead++;
-	return produce(worker, parts, sizeof parts / sizeof parts[0] - (timestamp < 0), headers);
+	return produce(worker, &output) ? DONE : FAILED;
 }
 
-static bool is_dead_code(const struct options *options, uint64_t code)
+bool is_dead_code(const struct options *options, uint64_t code)
 {
 	for (size_t k = 0; k < options->dead_code_count; k++)
 		if (options->dead_codes[k] == code)

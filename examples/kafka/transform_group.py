@@ -204,7 +204,7 @@ def main():
     for word in ("servers", "group", "name", "library", "image", "input"):
         words.add_argument(f"--{word}", required=True)
     words.add_argument("--outputs", required=True, nargs="+", metavar="TOPIC", help="1 to 64, the first for output 0")
-    words.add_argument("--table", type=int, default=1, choices=(1, 2), help="the helper table; 2 has the helpers of headers")
+    words.add_argument("--table", type=int, default=0, choices=(1, 2), help="an image's helper table, 1 if not given; 2 has the helpers of headers")
     words.add_argument("--records", type=int, default=10000, help="the most of one transaction")
     words.add_argument("--seconds", type=float, default=0.5, help="the longest wait for as many")
     for word, client in (("--set", "clients"), ("--set-consumer", "consumer"), ("--set-producer", "producer")):

@@ -187,10 +187,20 @@ static size_t link_records(struct worker *worker, size_t count)
 	return firsts;
 }
 
+/* Runs the program on a record, which is destroyed. The number of the next one of its partition, or NONE. */
+static next_step run_alone(struct worker *worker, uint32_t number, uint32_t *next)
+{
+	next_step step = run_on(worker, worker->polled[number]);
+	rd_kafka_message_destroy(worker->polled[number]);
+	worker->polled[number] = NULL;
+	*next = worker->following[number];
+	return step;
+}
+
 /* Runs the program on the first record of each partition, on the second of each, and so on, and after some turns on all
- * others of one partition and of the next. So the outputs' partitions get their first records at about the same time. With
- * its first record a partition is registered with the transaction, for which librdkafka's main thread waits busily for a
- * millisecond, but once alone for all that come meanwhile. */
+ * others of one partition and of the next, batch by batch. So the outputs' partitions get their first records at about the
+ * same time. With its first record a partition is registered with the transaction, for which librdkafka's main thread waits
+ * busily for a millisecond, but once alone for all that come meanwhile. */
 static next_step run_on_all(struct worker *worker, size_t count)
 {
 	next_step step = GO_ON;
@@ -198,12 +208,10 @@ static next_step run_on_all(struct worker *worker, size_t count)
 	const size_t turned = end * TURNS;
 	for (size_t at = 0; at < end && step == GO_ON; at++) {
 		uint32_t k = worker->order[at];
-		do {
-			step = run_on(worker, worker->polled[k]);
-			rd_kafka_message_destroy(worker->polled[k]);
-			worker->polled[k] = NULL;
-			k = worker->following[k];
-		} while (at >= turned && k != NONE && step == GO_ON);
+		if (at < turned)
+			step = run_alone(worker, k, &k);
+		while (at >= turned && k != NONE && step == GO_ON)
+			step = run_on_batch(worker, k, &k);
 		if (k != NONE)
 			worker->order[end++] = k;
 	}
@@ -365,7 +373,8 @@ bool open_worker(struct worker *worker)
 	worker->order = calloc(worker->options->records, sizeof *worker->order);
 	worker->key = malloc(MOST_KEY);
 	worker->value = malloc(MOST_VALUE);
-	if (!worker->polled || !worker->following || !worker->order || !worker->key || !worker->value)
+	worker->batch = malloc(LONGEST_BATCH);
+	if (!worker->polled || !worker->following || !worker->order || !worker->key || !worker->value || !worker->batch)
 		stop(worker, END, "memory ran out");
 	else if (open_producer(worker) && open_topics(worker) && open_consumer(worker))
 		return true;
@@ -386,6 +395,7 @@ void close_worker(struct worker *worker)
 		rd_kafka_destroy(worker->consumer);
 	if (worker->producer)
 		rd_kafka_destroy(worker->producer);
+	klog_free(&worker->batches);
 	klog_free(&worker->outcome);
 	klog_free(&worker->headers);
 	klog_free(&worker->program);
@@ -395,4 +405,6 @@ void close_worker(struct worker *worker)
 	free(worker->order);
 	free(worker->key);
 	free(worker->value);
+	free(worker->batch);
+	free(worker->rows);
 }

@@ -4,7 +4,7 @@
 #include <stdio.h>
 #include <string.h>
 
-enum { LONGEST_IMAGE = 131072, LONGEST_KEY = 4096, LONGEST_VALUE = 1048576 };
+enum { LONGEST_PROGRAM = 8388608, LONGEST_KEY = 4096, LONGEST_VALUE = 1048576 };
 enum { LONGEST_HEADER_KEY = 255, LONGEST_HEADER_VALUE = 4096 };
 
 /* Prints the text of a fault, and is the program's status. */
@@ -19,7 +19,7 @@ static int print_fault(const char *call, uint32_t fault, size_t place)
 
 static int load(const char *name, klog_handle *program)
 {
-	static uint8_t image[LONGEST_IMAGE + 1];
+	static uint8_t image[LONGEST_PROGRAM];
 	FILE *file = fopen(name, "rb");
 	if (!file) {
 		perror(name);
@@ -27,7 +27,7 @@ static int load(const char *name, klog_handle *program)
 	}
 	size_t length = fread(image, 1, sizeof image, file), place = 0;
 	fclose(file);
-	uint32_t fault = klog_load(image, length, KLOG_TABLE_ONE, program, &place);
+	uint32_t fault = klog_load(image, length, KLOG_TABLE_OWN, program, &place);
 	return fault ? print_fault(name, fault, place) : 0;
 }
 

@@ -138,7 +138,7 @@ def words():
     parser.add_argument("--outputs", type=int, default=1, choices=range(1, MOST_OUTPUTS + 1), metavar="N",
                         help="how many output partitions there are, 1 to 64")
     parser.add_argument("--only", type=int, metavar="Q", help="print what goes to output Q alone")
-    parser.add_argument("--table", type=int, default=1, choices=(1, 2), help="the helper table")
+    parser.add_argument("--table", type=int, default=0, choices=(1, 2), help="the helper table of an image, 1 if not given")
     given = parser.parse_args()
     if given.outputs > 1 and given.only is None and not given.json:
         parser.error("with several outputs take --only Q, or --json, whose lines name the output")

@@ -6,7 +6,7 @@
 #include <stdlib.h>
 #include <string.h>
 
-enum { LONGEST_IMAGE = 131072, ROOM = 16 << 20, FRONT = 12, MOST_OUTPUTS = 64 };
+enum { LONGEST_PROGRAM = 8388608, ROOM = 16 << 20, FRONT = 12, MOST_OUTPUTS = 64 };
 
 /* The most bytes of rows that one call may make: a program that emits much ends with KLOG_LIMIT, not the memory. */
 static const uint64_t most_rows = 256 << 20;
@@ -37,7 +37,7 @@ static int print_fault(const char *call, uint32_t fault, size_t place)
 
 static int load(const char *name, klog_handle *program)
 {
-	static uint8_t image[LONGEST_IMAGE + 1];
+	static uint8_t image[LONGEST_PROGRAM];
 	FILE *file = fopen(name, "rb");
 	if (!file) {
 		perror(name);
@@ -45,7 +45,7 @@ static int load(const char *name, klog_handle *program)
 	}
 	size_t length = fread(image, 1, sizeof image, file), place = 0;
 	fclose(file);
-	uint32_t fault = klog_load(image, length, KLOG_TABLE_ONE, program, &place);
+	uint32_t fault = klog_load(image, length, KLOG_TABLE_OWN, program, &place);
 	return fault ? print_fault(name, fault, place) : 0;
 }
 

@@ -1,9 +1,11 @@
-/* Stands in for klog's library in a member (examples/kafka): each record is forwarded to output 0, without headers, at no
- * cost. kafka_scaling.py builds a member with it, to tell what of a member's time is klog's. */
+/* Stands in for klog's library in a member (examples/kafka): each record is forwarded to output 0, one by itself without
+ * headers, at no cost. kafka_scaling.py builds a member with it, to tell what of a member's time is klog's. */
 #include <klog_engine.h>
 #include <string.h>
 
 static _Thread_local klog_record given;
+static _Thread_local const uint8_t *batch;
+static _Thread_local size_t batch_length;
 
 uint32_t klog_load(const uint8_t *image, size_t length, uint32_t table, klog_handle *program, size_t *place)
 {
@@ -91,4 +93,46 @@ uint32_t klog_emission_header_value(const klog_handle *outcome, size_t number, s
 {
 	(void)outcome, (void)number, (void)at, (void)buffer, (void)room;
 	return KLOG_RANGE;
+}
+
+uint32_t klog_transform(const klog_handle *program, const klog_source *source, const uint8_t *bytes, size_t length,
+			klog_handle *batches, klog_stop *stop)
+{
+	(void)program, (void)source, (void)batches, (void)stop;
+	batch = bytes;
+	batch_length = length;
+	return KLOG_OK;
+}
+
+/* How many records the batch says that it has. */
+static uint32_t batch_records(void)
+{
+	return (uint32_t)batch[57] << 24 | (uint32_t)batch[58] << 16 | (uint32_t)batch[59] << 8 | batch[60];
+}
+
+uint32_t klog_counts_of(const klog_handle *batches, klog_counts *counts)
+{
+	(void)batches;
+	*counts = (klog_counts){1, batch_records(), batch_records(), 0, 1};
+	return KLOG_OK;
+}
+
+uint32_t klog_reject_at(const klog_handle *batches, size_t number, klog_reject *reject)
+{
+	(void)batches, (void)number, (void)reject;
+	return KLOG_RANGE;
+}
+
+uint32_t klog_output_at(const klog_handle *batches, size_t number, klog_output *output)
+{
+	(void)batches;
+	*output = number ? (klog_output){0, 0, 0} : (klog_output){batch_records(), batch_length, 1};
+	return KLOG_OK;
+}
+
+uint32_t klog_output_batches(const klog_handle *batches, size_t number, uint8_t *buffer, size_t room)
+{
+	(void)batches, (void)number, (void)room;
+	memcpy(buffer, batch, batch_length);
+	return KLOG_OK;
 }

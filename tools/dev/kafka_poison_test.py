@@ -9,7 +9,8 @@ Not part of the build. On Debian, with the member that the Makefile of examples/
 There is one of each kind: a key, a value, headers, a header's key and a header's value beyond klog's limits, a header's
 key that is no UTF-8, no timestamp, an output that is longer than message.max.bytes, and a record that the program
 rejects. With --dead all are in the topic of dead letters; without it all but the rejected are skipped; with --strict the
-member ends at the first. The metrics of the first two are read, and a program that is none is refused.
+member ends at the first. The metrics of the first two are read, and a program that is none is refused. The program comes
+in a program file of helper table 3, and the records between have null and empty keys, headers, and times that fall.
 """
 import os
 import re
@@ -24,9 +25,11 @@ from confluent_kafka import OFFSET_BEGINNING, Consumer, KafkaError, TopicPartiti
 from kafka_group_test import DROP_SHORT
 from make_segment import batch_of
 from mock_kafka import Front, MockCluster, crc32c
+from program_files import written
 
 TIME, LONGEST = 1700000000000, 1100000
-GOOD = [(TIME + k, b"key %d" % k, b"a value, %d" % k, [("of", b"%d" % k)]) for k in range(90)]
+GOOD = [(TIME + 37 * k % 90, [b"key %d" % k, None, b""][k % 3], b"a value, %d" % k, [("of", b"%d" % k), ("none", None)][:k % 4])
+        for k in range(90)]
 
 # A record of each kind, and why the member can't take it. The program forwards values of 8 bytes and more.
 KINDS = [
@@ -81,7 +84,7 @@ class Run:
         self.front = Front(MockCluster({"in": 1, "out": 1, "dead": 1}))
         self.offsets = fill(self.front.mock)
         with open(f"{folder}/image", "wb") as file:
-            file.write(DROP_SHORT)
+            file.write(written(3, DROP_SHORT, b"0 drop_short.c:3\n"))
         with open(f"{folder}/log", "w") as log:
             self.process = subprocess.Popen(
                 [member, "--servers", self.front.servers, "--group", "g", "--name", "n", "--image", f"{folder}/image", "--input",
@@ -113,11 +116,12 @@ class Run:
             return dict(re.findall(r'^(\w+)\{group="g",member="n"(?:,code="1")?\} (\d+)$', file.read(), re.M))
 
     def compare_outputs(self):
-        found = [(message.timestamp()[1], message.key(), message.value(), message.headers())
+        found = [(message.timestamp()[1], message.key(), message.value(), message.headers() or [])
                  for message in read(self.front.servers, "out")]
         wanted = [row for k, row in enumerate(GOOD) if k % 10 != 9]
         if found != wanted:
-            self.fail(f"{len(found)} outputs, not {len(wanted)}")
+            differs = next(((x, y) for x, y in zip(found, wanted) if x != y), "none of the first")
+            self.fail(f"{len(found)} outputs, not {len(wanted)}; {differs} differs")
 
 
 def check_counts(run, found, **wanted):

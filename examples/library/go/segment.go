@@ -75,7 +75,7 @@ func run() error {
 	}
 	var program Program
 	defer program.Free()
-	if err := program.Load(image, 1); err != nil {
+	if err := program.Load(image, 0); err != nil {
 		return err
 	}
 	in, err := os.Open(os.Args[2])
