@@ -6,7 +6,9 @@
  * and what the function's arguments take. Where the bytes end, zeros follow. A new function is a row of `calls`. */
 #include "klog_engine.h"
 #include "plain.h"
+#include "program_file.h"
 #include "refusal.h"
+#include "samples.h"
 
 #include <stdio.h>
 #include <stdlib.h>
@@ -88,60 +90,39 @@ static uint8_t *block(size_t length)
 	return bytes;
 }
 
-/* A short program for each helper: its call by arguments that are accepted, and some that are refused. */
-static const char *const images[] = {
-	"b700000000000000" "9500000000000000",
-	"b701000000000000" "8500000003000000" "b700000000000000" "9500000000000000",
-	"b701000001000000" "8500000006000000" "8500000007000000" "9500000000000000",
-	"8500000008000000" "9500000000000000",
-	"8500000009000000" "9500000000000000",
-	"850000000a000000" "9500000000000000",
-	"b701000000000000" "8500000003000000" "b701000000000000" "8500000003000000" "b700000000000000" "9500000000000000",
-	"bfa1000000000000" "07010000f8ffffff" "b702000000000000" "b703000008000000" "8500000001000000" "b701000000000000"
-	"bfa2000000000000" "07020000f8ffffff" "b703000008000000" "8500000004000000" "b700000000000000" "9500000000000000",
-	"bfa1000000000000" "07010000f8ffffff" "b702000000000000" "b703000008000000" "850000000b000000" "9500000000000000",
-	"bfa1000000000000" "0701000000feffff" "b702000000000000" "b703000000020000" "850000000c000000" "b700000000000000"
-	"9500000000000000",
-	"8500000063000000" "9500000000000000",
-	"7110000000000000" "9500000000000000",
-};
-
-/* A batch of two records, the second with a null value. Its checksum is made before use. */
-static const char batch_text[] =
-	"0000000000000000" "0000004f" "00000000" "02" "00000000" "0000" "00000001" "00000000000003e8" "00000000000003ed"
-	"ffffffffffffffff" "ffff" "ffffffff" "00000002"
-	"24" "00" "00" "00" "026b" "0876616c75" "04" "0268" "0278" "0269" "01"
-	"14" "00" "0a" "02" "026b" "01" "02" "0268" "00";
-
-static uint8_t digit(char letter)
-{
-	return (uint8_t)(letter <= '9' ? letter - '0' : letter - 'a' + 10);
-}
-
-static size_t bytes_of(const char *text, uint8_t *bytes)
-{
-	size_t length = strlen(text) / 2;
-	for (size_t k = 0; k < length; k++)
-		bytes[k] = (uint8_t)(digit(text[2 * k]) << 4 | digit(text[2 * k + 1]));
-	return length;
-}
-
 /* An image, mostly of the list, in a block of its length. */
 static uint8_t *some_image(size_t *length)
 {
-	uint8_t bytes[200], choice = byte();
+	uint8_t bytes[LONGEST_SAMPLE], choice = byte();
 	if (choice >= 200) {
 		*length = byte() * 8u;
 		return block(*length);
 	}
-	*length = bytes_of(images[choice % (sizeof images / sizeof images[0])], bytes);
+	*length = sample_image(choice, bytes);
 	return copy_of(bytes, *length);
+}
+
+/* An image, or a program file of one, mostly with all helpers and sometimes cut. */
+static uint8_t *some_program(size_t *length)
+{
+	size_t size;
+	uint8_t *image = some_image(&size), choice = byte();
+	if (choice < 100) {
+		*length = size;
+		return image;
+	}
+	uint8_t *file = program_file_of(image, size, choice < 180 ? 3 : choice % 5u, byte() % 4u, &size);
+	free(image);
+	*length = chance(40) ? byte() % (size + 1) : size;
+	uint8_t *cut = copy_of(file, *length);
+	free(file);
+	return cut;
 }
 
 /* Up to three batches, sometimes cut, or the bytes of the input, mended. */
 static uint8_t *some_batches(size_t *length)
 {
-	uint8_t bytes[3 * sizeof batch_text / 2], choice = byte();
+	uint8_t bytes[3 * LONGEST_SAMPLE], choice = byte();
 	if (choice >= 128) {
 		*length = rest.length < 500 ? rest.length : 500;
 		uint8_t *own = block(*length);
@@ -150,7 +131,7 @@ static uint8_t *some_batches(size_t *length)
 	}
 	size_t count = choice % 4, one = 0;
 	for (size_t k = 0; k < count; k++)
-		one = bytes_of(batch_text, bytes + k * one);
+		one = sample_batch(bytes + k * one);
 	repair_batches(bytes, count * one, REPAIR_CHECKSUM);
 	*length = count * one;
 	*length -= choice >= 100 && *length ? choice % 20 : 0;
@@ -160,7 +141,7 @@ static uint8_t *some_batches(size_t *length)
 static uint32_t table(void)
 {
 	uint8_t choice = byte();
-	return choice < 200 ? KLOG_TABLE_ONE + choice % 2u : choice < 240 ? KLOG_TABLE_OWN : choice;
+	return choice < 80 ? KLOG_TABLE_ONE + choice % 2u : choice < 240 ? KLOG_TABLE_OWN : choice;
 }
 
 /* A length that no block has stands for a long one, which is refused before it is read. */
@@ -181,7 +162,7 @@ static uint32_t told(uint32_t fault, bool is_null)
 static uint32_t call_load(void)
 {
 	size_t length, place = 0;
-	uint8_t *image = some_image(&length);
+	uint8_t *image = some_program(&length);
 	uint32_t of = table();
 	bool is_null = chance(8), has_place = !chance(5);
 	size_t given = stated(length, PTRDIFF_MAX);
@@ -219,10 +200,16 @@ static uint32_t call_transform(void)
 		source = (klog_source){source.offset & 255, source.partition & 63, 1 + source.outputs % 64};
 	size_t length;
 	uint8_t *bytes = some_batches(&length);
-	bool has_source = !chance(5), has_stop = !chance(5);
+	bool has_source = !chance(5), has_stop = !chance(5), has_limit = chance(80);
 	size_t given = chance(3) ? (size_t)PTRDIFF_MAX + 1 + byte() : length;
+	uint64_t limit = has_limit ? number() : UINT64_MAX;
 	klog_handle *program = handle(PROGRAM), *to = handle(BATCHES);
-	uint32_t fault = klog_transform(program, has_source ? &source : NULL, bytes, given, to, has_stop ? &stop : NULL);
+	const klog_source *from = has_source ? &source : NULL;
+	klog_stop *at = has_stop ? &stop : NULL;
+	uint32_t fault = has_limit ? klog_transform_within(program, from, bytes, given, limit, to, at)
+				   : klog_transform(program, from, bytes, given, to, at);
+	if (fault == KLOG_LIMIT && !has_limit)
+		fail("a limit that nobody set", fault);
 	free(bytes);
 	return told(fault, !program || !has_source || !to || !has_stop || program == to);
 }
@@ -346,7 +333,7 @@ static uint32_t call_copy(void)
 static uint32_t call_explain(void)
 {
 	size_t length;
-	uint8_t *image = some_image(&length);
+	uint8_t *image = some_program(&length);
 	bool is_null = chance(8), is_alone = chance(128);
 	uint32_t of = table();
 	size_t given = stated(length, 1048576);
@@ -393,7 +380,7 @@ static bool is_fault(uint32_t number_of)
 	return (number_of >= KLOG_MEMORY && number_of < KLOG_IMAGE) ||
 	       (number_of > KLOG_IMAGE && number_of <= KLOG_IMAGE + 6) ||
 	       (number_of > KLOG_VERIFIER && number_of <= KLOG_VERIFIER + 13) ||
-	       (number_of > KLOG_BATCH && number_of <= KLOG_BATCH + 9);
+	       (number_of > KLOG_BATCH && number_of <= KLOG_BATCH + 9) || (number_of > KLOG_FILE && number_of <= KLOG_FILE + 4);
 }
 
 static void call_one(void)

@@ -95,7 +95,7 @@ static size_t character_length(uint8_t first)
 	return first < 0xe0 ? 2 : first < 0xf0 ? 3 : 4;
 }
 
-static bool is_utf8(struct part text)
+bool is_utf8(struct part text)
 {
 	static const uint32_t least[] = {0, 0, 0x80, 0x800, 0x10000};
 	for (size_t at = 0, length; at < text.length; at += length) {

@@ -62,6 +62,8 @@ uint8_t *copy_of(const uint8_t *bytes, size_t length);
 
 uint32_t crc32c(const uint8_t *bytes, size_t length);
 
+bool is_utf8(struct part text);
+
 /* The front of the bytes. */
 struct plain_batch read_batch(const uint8_t *bytes, size_t length);
 

@@ -42,14 +42,18 @@ cd "$out"
 words="-g -O1 -std=c11 -Wall -Wextra -Werror -I$top/include -I$top/fuzz"
 checked="-fsanitize=address,undefined -fno-sanitize-recover=all"
 "$clang" $words $checked,fuzzer-no-link -c "$top/include/klog_engine.c" -o engine.o
-for name in plain refusal; do
+parts="plain program_file refusal"
+for name in $parts loading rows samples transform_fuzz calls_fuzz; do
 	"$clang" $words $checked -c "$top/fuzz/$name.c" -o "$name.o"
 done
-for name in transform calls; do
-	"$clang" $words $checked -c "$top/fuzz/${name}_fuzz.c" -o "${name}_fuzz.o"
-	"$clang" -fsanitize=address,undefined,fuzzer "${name}_fuzz.o" plain.o refusal.o engine.o address.o "$memory" \
-		-Wl,--wrap=malloc -Wl,--wrap=realloc -o "${name}_fuzz"
-done
+link_target() {
+	target=$1_fuzz
+	shift
+	"$clang" -fsanitize=address,undefined,fuzzer "$target.o" $(printf '%s.o ' "$@" $parts engine address) "$memory" \
+		-Wl,--wrap=malloc -Wl,--wrap=realloc -o "$target"
+}
+link_target transform loading rows
+link_target calls samples
 "$clang" $words -c "$top/fuzz/thread_calls.c" -o thread_calls.o
 # The driver itself is not watched: its long loops would push the library's accesses out of the sanitizer's history.
 "$clang" $words -D_POSIX_C_SOURCE=200809L -pthread -c "$top/tools/dev/library_driver.c" -o library_driver.o
@@ -58,7 +62,7 @@ done
 python3 -B "$top/fuzz/seeds.py" inputs || fail "the seeds were not made"
 
 run_target() {
-	"./${1}_fuzz" -max_total_time=$((minutes * 60)) -max_len=4096 -timeout=60 -artifact_prefix="fault-$1-" \
+	"./${1}_fuzz" -max_total_time=$((minutes * 60)) -max_len=4096 -timeout=600 -artifact_prefix="fault-$1-" \
 		-print_final_stats=1 "inputs/$1" >"$1.log" 2>&1
 }
 
@@ -90,7 +94,7 @@ echo "running the threads: $threads min"
 driver_status=0
 # The longest history: a race is told only where the other access is still in it.
 TSAN_OPTIONS=history_size=7:halt_on_error=1 ./library_driver $((threads * 60)) 4 1 "$top/examples/forward.bin" \
-	"$top"/examples/c/*.bin >threads.log 2>&1 || driver_status=$?
+	"$top"/examples/c/*.bin inputs/files/* >threads.log 2>&1 || driver_status=$?
 if [ $driver_status -eq 0 ]; then
 	echo "threads: $(tail -n 1 threads.log)"
 else

@@ -2,6 +2,7 @@
  * of each kind, with random, damaged and huge images, records, headers and record batches, short buffers, null pointers
  * and handles of every kind.
  *	library_driver SECONDS THREADS SEED IMAGE ..
+ * Each IMAGE but the first may be a program file.
  * It fails where a fault is none of the function's, where a fault changes a handle or a buffer, where the first image,
  * which forwards each record to output 0, gives another record or batch than it was given, or where a beginning of that
  * image's program file is loaded, or refused with another fault than its length has. A sanitizer finds the rest:
@@ -156,6 +157,12 @@ static size_t as_file(uint8_t *bytes, size_t length, uint32_t of)
 	return 16 + length + told;
 }
 
+/* Whether some bytes begin as a program file. */
+static bool is_file(const struct image *image)
+{
+	return image->length >= 4 && !memcmp(image->bytes, "KLOG", 4);
+}
+
 static void load(struct worker *w)
 {
 	const struct image *from = &images[below(w, image_count)];
@@ -163,7 +170,7 @@ static void load(struct worker *w)
 	uint8_t *bytes = block(w, length + FILE_ROOM);
 	if (!one_in(w, 8))
 		memcpy(bytes, from->bytes, length < from->length ? length : from->length);
-	if (one_in(w, 3))
+	if (!is_file(from) && one_in(w, 3))
 		length = as_file(bytes, length, (uint32_t)below(w, 4));
 	for (uint64_t k = below(w, 3); k && length; k--)
 		bytes[below(w, length)] ^= (uint8_t)(1u << below(w, 8));
@@ -395,7 +402,7 @@ static void explain(struct worker *w)
 	size_t length = one_in(w, 4) ? length_below(w, LONGEST) : from->length, told = 0;
 	uint8_t *bytes = block(w, length + FILE_ROOM);
 	memcpy(bytes, from->bytes, length < from->length ? length : from->length);
-	if (one_in(w, 3))
+	if (!is_file(from) && one_in(w, 3))
 		length = as_file(bytes, length, (uint32_t)below(w, 4));
 	if (length && one_in(w, 2))
 		bytes[below(w, length)] ^= (uint8_t)(1u << below(w, 8));
@@ -810,6 +817,10 @@ static void load_files(struct worker *w)
 		load_file(file, k, KLOG_TABLE_OWN,
 			  k < 4 ? 101 : k < 16 + from->length ? KLOG_FILE + 1 : k == 16 + from->length ? KLOG_OK : KLOG_FILE + 4);
 	load_file(from->bytes, from->length, KLOG_TABLE_OWN, KLOG_OK);
+	memcpy(file, from->bytes, from->length);
+	length = as_file(file, from->length, 3);
+	load_file(file, length, KLOG_TABLE_OWN, KLOG_OK);
+	load_file(file, length, KLOG_TABLE_TWO, KLOG_FILE + 3);
 	free(file);
 }
 
