@@ -182,8 +182,9 @@ uint32_t klog_transform(const klog_handle *program, const klog_source *source, c
 /* The same, where the batches of all output partitions take at most `limit` bytes together. KLOG_LIMIT: they would take
  * more. Then `*stop` says after which batches this showed, and nothing is kept, as after each fault. Output batches are
  * counted after each given batch, as far as they are full, and all of them at the end: so a call holds at most `limit`
- * bytes of rows and what one given batch adds, which is 400 MB at worst. The first fault is returned: a batch that is
- * refused comes after a limit that the batches before it passed. Without a limit it is UINT64_MAX. */
+ * bytes of rows, the batch that each output fills, and what one given batch adds. Beside `limit` that is 550 MB at worst,
+ * with 64 outputs. The first fault is returned: a batch that is refused comes after a limit that the batches before it
+ * passed. Without a limit it is UINT64_MAX. */
 uint32_t klog_transform_within(const klog_handle *program, const klog_source *source, const uint8_t *bytes,
 			       size_t length, uint64_t limit, klog_handle *batches, klog_stop *stop);
 
