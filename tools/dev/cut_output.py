@@ -30,7 +30,7 @@ def limited(size):
 def cut_at(klog, script, size, whole):
     """What is wrong with a run whose output has room for `size` bytes, or nothing."""
     with tempfile.TemporaryFile() as out:
-        ran = subprocess.run([klog, "run", script.name], cwd=script.parent, stdout=out, stderr=subprocess.PIPE, preexec_fn=limited(size), timeout=60)
+        ran = subprocess.run([klog, "run", script.name], cwd=script.parent, stdout=out, stderr=subprocess.PIPE, preexec_fn=limited(size), timeout=600)
         out.seek(0)
         written = out.read()
     if (ran.returncode, ran.stderr) != (3, b"file stdout\n"):
@@ -47,7 +47,7 @@ def lost(klog, script):
     outputs = {"/dev/full": os.open("/dev/full", os.O_WRONLY), "a pipe that nobody reads": writer, "closed": None}
     for name, output in outputs.items():
         begin = (lambda: os.close(1)) if output is None else (lambda: signal.signal(signal.SIGPIPE, signal.SIG_IGN))
-        ran = subprocess.run([klog, "run", script.name], cwd=script.parent, stdout=output, stderr=subprocess.PIPE, preexec_fn=begin, timeout=60)
+        ran = subprocess.run([klog, "run", script.name], cwd=script.parent, stdout=output, stderr=subprocess.PIPE, preexec_fn=begin, timeout=600)
         if output is not None:
             os.close(output)
         if (ran.returncode, ran.stderr) != (3, b"file stdout\n"):
@@ -61,7 +61,7 @@ def main():
     scripts = [Path(name).resolve() for name in sys.argv[2:]] or sorted(EXAMPLES.glob("*.klog"))
     runs, wrong = 0, []
     for script in scripts:
-        whole = subprocess.run([klog, "run", script.name], cwd=script.parent, stdout=subprocess.PIPE, check=True, timeout=60).stdout
+        whole = subprocess.run([klog, "run", script.name], cwd=script.parent, stdout=subprocess.PIPE, check=True, timeout=600).stdout
         found = [cut_at(klog, script, size, whole) for size in range(len(whole))]
         wrong += [text for text in found if text] + list(lost(klog, script))
         runs += len(whole) + 3

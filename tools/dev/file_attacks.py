@@ -66,7 +66,7 @@ class Room:
         how.setdefault("stdin", subprocess.DEVNULL)
         how.setdefault("stdout", subprocess.PIPE)
         how.setdefault("stderr", subprocess.PIPE)
-        return subprocess.run([self.klog, *words], cwd=self.folder, timeout=120, check=False, **how)
+        return subprocess.run([self.klog, *words], cwd=self.folder, timeout=600, check=False, **how)
 
     def check(self, kind: str, label: str, fault: Optional[str]) -> None:
         right, all_ = self.counts.get(kind, (0, 0))
@@ -292,7 +292,7 @@ def not_blocking(room: Room, rows: bytes) -> None:
                              stdout=subprocess.DEVNULL, stderr=subprocess.PIPE)
     os.close(end)
     write_slowly(source, batches)
-    child.communicate(timeout=60)
+    child.communicate(timeout=600)
     good = child.returncode == 0 and room.read("slow") == rows
     room.check("streams that don't block", "standard input", None if good else f"status {child.returncode}")
     source, end = os.pipe()
