@@ -1,7 +1,7 @@
 //! Tests of programs by public calls. In `texts` those of their texts and images, of explanations and of a script's
 //! lines, in `verifier` those of the verifier, in `machines` those of programs on the interpreter and on the plain
 //! machine, and in `damage` those of images that are damaged and of memory that is refused. The others are of
-//! arithmetic, images, program files, rules and runs on many records.
+//! arithmetic, images, program files, rules, compiled rules and runs on many records.
 #![tactic(auto)]
 
 #[cfg(test)]
@@ -10,6 +10,8 @@ mod abreast;
 mod block_texts;
 #[cfg(test)]
 mod changes;
+#[cfg(test)]
+mod compiled_rules;
 #[cfg(test)]
 mod damage;
 #[cfg(test)]

@@ -51,7 +51,7 @@ pub(crate) fn instruction_of(alloc: Global, line: &str) -> Option<Instruction> {
 }
 
 /// Bytes as hexadecimal digits, `.` for no bytes, or as `07*4096` where a byte is repeated, here 4,096 times.
-fn bytes_of(alloc: Global, word: &str) -> Option<Vec<u8>> {
+fn piece_of(alloc: Global, word: &str) -> Option<Vec<u8>> {
     match word.split_once('*') {
         Some((byte, count)) => {
             let (byte, count) = (u8::from_str_radix(byte, 16).ok()?, count.parse().ok()?);
@@ -60,6 +60,15 @@ fn bytes_of(alloc: Global, word: &str) -> Option<Vec<u8>> {
         None if word == "." => Some(Vec::new(alloc)),
         None => hex::decode(alloc, word).ok(),
     }
+}
+
+/// Pieces of bytes, one after another, with `+` between two.
+fn bytes_of(alloc: Global, word: &str) -> Option<Vec<u8>> {
+    let mut bytes = Vec::new(alloc);
+    for piece in word.split('+') {
+        bytes.extend_from_slice(&piece_of(alloc, piece)?).ok()?;
+    }
+    Some(bytes)
 }
 
 fn some_bytes(alloc: Global, word: &str) -> Option<Bytes> {

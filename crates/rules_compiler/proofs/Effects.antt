@@ -1,0 +1,387 @@
+-- What the code of tests and conditions does.
+use Rattle.std.proofs.Common.{◌≡◌, ℕ, ◌+◌, ◌*◌, ◌/◌, ◌%◌, ◌^◌, ◌<◌, ◌≤◌, pos, Bool, true, false, not}
+use Rattle.std.proofs.Common.{◌&&◌, ◌||◌, ◌==◌, nat_lt, nat_le, if◌then◌else◌, List, [], ◌∷◌, ◌++◌, length, Option, Some}
+use Rattle.std.proofs.Common.{None, refl, sym, ap, ◌∙◌, subst, arith, ⊎_elim}
+use Rattle.std.specs.Int.{w32, cast_signed}
+use Rattle.std.proofs.lemmas.Bool.{cond_both, ne_eqb, eq-eqb, and_parts, ltb-true}
+use Rattle.std.proofs.lemmas.{Int.of_z-to_z}
+use Rattle.machine_spec.specs.declared.instruction.Instruction.{Instruction}
+use Rattle.machine_spec.specs.declared.instruction.Source.TheVariants.{Register, Immediate}
+use Rattle.machine_spec.specs.declared.operation.{Test.Test as Jumps, Operation.TheVariants.Xor}
+use Rattle.machine_spec.specs.declared.operation.Width.TheVariants.{Bits32, Bits64}
+use Rattle.machine_spec.specs.declared.operation.Test.TheVariants as jumps
+use Rattle.machine_spec.specs.Values.{Number, is_taken, immediate}
+use Rattle.machine_spec.specs.Machine.{Input, State, state_after, goes_to}
+use Rattle.machine_spec.specs.Signatures.{helper_among}
+use Rattle.machine_spec.specs.{Parts.length_answer, Parts.part_in}
+use Rattle.verifier_spec.specs.StandsFor.{IsInput}
+use Rattle.rules.specs.declared.{rule.Part.Part, rule.Term.Term, rule.Comparison.Comparison}
+use Rattle.rules.specs.declared.{rule.Test.Test as Tests}
+use Rattle.rules.specs.declared.rule.Comparison.TheVariants as comparison
+use Rattle.rules.specs.declared.rule.Test.TheVariants as test
+use Rattle.rules.specs.Lines.{Formula, Single, Negated, Both, Either}
+use Rattle.rules.specs.Meaning.{is_null, is_absent, test_equals, test_begins, passes_if, term_value, compares, compares_if, test_holds, holds}
+use Rattle.rules.specs.Limits.{IsText, FitsPart, FitsTerm, FitsTest, HasFitting}
+use Rattle.rules_compiler.specs.Code.{Code, Plain, Unless}
+use Rattle.rules_compiler.specs.Pieces.{set, change, number_code, word_count, text_code, part_code, measure}
+use Rattle.rules_compiler.specs.Terms.{term_code}
+use Rattle.rules_compiler.specs.Tests.{stands, text_test_code, length_test_code, test_of, comparing_code, compare_code, test_code}
+use Rattle.rules_compiler.specs.Rules.{condition_code}
+use Rattle.rules_compiler.specs.declared.pieces.TheConstants.{NEAR}
+use Rattle.rules_compiler.proofs.Ready.{Ready, small_immediate}
+use Rattle.rules_compiler.proofs.Texts.{runs_both, HoldsText, text_has, text_read, bytes_of_text}
+use Rattle.rules_compiler.proofs.Parts.{found, bytes_found, absent_is, null_is, part_run}
+use Rattle.machine_spec.specs.{Parts.part_numbered, Places.stand_at, Values.result_of}
+use Rattle.machine_spec.specs.declared.operation.Operation.TheVariants.{Add}
+use Rattle.std.specs.{Str.bytes_eq, List.starts_with}
+use Rattle.std.proofs.lemmas.{Slice.Eq.bytes_eq-Decides, List.take_all}
+use Rattle.std.proofs.Common.{nat_eq, unwrap_or}
+use Rattle.std.proofs.lemmas.Bool.{le-leb, cases_eq}
+use Rattle.rules_compiler.proofs.Walks.{On, run_list, run}
+use Rattle.rules_compiler.specs.Coverage.{term_has_code, test_has_code, formula_has_code}
+use Rattle.rules_compiler.proofs.SearchEffects.{has_decides}
+use Rattle.rules_compiler.proofs.Courses.{Decides, HasTerm, bit_of}
+use Rattle.rules_compiler.proofs.Courses.{bytes_of_found, enter_decides, list_decides}
+use Rattle.rules_compiler.proofs.Courses.{measures}
+use Rattle.rules_compiler.proofs.Courses.{skip_decides, then_decides}
+use Rattle.rules_compiler.proofs.TermEffects.{term_values}
+
+-- ---- tests of lengths
+
+module _ (input : Input) (t : State) (ready : Ready input t) (truth : t.registers 8 ≡ Number 0) where
+  abbrev testing : ℕ → Code
+  testing n = Unless jumps.NotEqual 0 (Immediate (pos n)) (Plain (set 8 (pos 1) ∷ []))
+
+  tested : (n a : ℕ) (b : Bool) → immediate Bits64 (pos n) ≡ n → t.registers 0 ≡ Number a → (a == n) ≡ b →
+      Decides input (testing n) t b
+  unfolding state_after
+  tested n a true small answer is =
+      enter_decides input jumps.NotEqual 0 (Immediate (pos n)) (Plain (set 8 (pos 1) ∷ [])) t true
+      (rw (answer, small, is) refl) (list_decides input (set 8 (pos 1) ∷ []) (goes_to t (t.slot + 1)) true (assumption ready) refl)
+  tested n a false small answer is =
+      skip_decides input jumps.NotEqual 0 (Immediate (pos n)) (Plain (set 8 (pos 1) ∷ [])) t false
+      (rw (answer, small, is) refl) ready truth
+
+module _ (input : Input) (given : IsInput input) (s : State) (ready : Ready input s) where
+  length_decides : (p : Part) (n : ℕ) (b : Bool) → FitsPart IsText p → immediate Bits64 (pos n) ≡ n →
+      (length_answer (found p input.given) == n) ≡ b → Decides input (length_test_code p (pos n)) s b
+  unfolding length_test_code
+  length_decides p n b fits small is =
+      let m = measures input given s ready p fits in
+      then_decides input (Plain (part_code p ++ measure))
+      (Unless jumps.NotEqual 0 (Immediate (pos n)) (Plain (set 8 (pos 1) ∷ []))) s m.state b m.runs
+      (tested input m.state m.ready m.truth n (length_answer (found p input.given)) b small m.answer is)
+
+  null_decides : (p : Part) → FitsPart IsText p → Decides input (length_test_code p (pos 1)) s (is_null p input.given)
+  null_decides p fits = length_decides p 1 (is_null p input.given) fits refl (null_is p input.given)
+
+  absent_decides : (p : Part) → FitsPart IsText p → Decides input (length_test_code p (pos 0)) s (is_absent p input.given)
+  absent_decides p fits = length_decides p 0 (is_absent p input.given) fits refl (absent_is p input.given)
+
+-- ---- texts
+
+-- r8 says whether a part begins with a text, and r0 has what the helper says of its length
+pub record Asks (input : Input) (p : Part) (text : List ℕ) (s : State) : Type 0 where
+  pub state : State
+  pub runs : run input (Plain (part_code p ++ (text_code NEAR text ++ stands (length text)))) s ≡ On state
+  pub ready : Ready input state
+  pub answer : state.registers 0 ≡ Number (length_answer (found p input.given))
+  pub truth : state.registers 8
+      ≡ Number (bit_of (starts_with nat_eq (bytes_of_found (found p input.given)) text))
+
+bit_is : (b : Bool) → (if b then 1 else 0) ≡ bit_of b
+bit_is true = refl
+bit_is false = refl
+
+begins_is : (part text : List ℕ) → (if stand_at part text 0 then 1 else 0) ≡ bit_of (starts_with nat_eq part text)
+begins_is part text =
+    let low = le-leb 0 (length part) (omega arith) in
+    rw low (bit_is (starts_with nat_eq part text))
+
+module _ (input : Input) (t : State) (ready : Ready input t) (text : List ℕ) (few : length text ≤ 255) (number : ℕ)
+    (is : t.registers 6 ≡ Number number) (holds : HoldsText t.stack text (word_count (length text))) where
+  asked_ready : Ready input (run_list input (stands (length text)) t)
+  unfolding state_after helper_among
+  asked_ready = assumption ready
+
+  asked_answer : (run_list input (stands (length text)) t).registers 0
+      ≡ Number (length_answer (part_in input.given (part_numbered number)))
+  unfolding state_after helper_among
+  asked_answer = rw is refl
+
+  asked_truth : (run_list input (stands (length text)) t).registers 8
+      ≡ Number (if stand_at (bytes_of_found (part_in input.given (part_numbered number))) text 0 then 1 else 0)
+  unfolding state_after helper_among
+  asked_truth =
+      let frame = ready.frame_is in
+      let read = text_read input t.stack text (immediate Bits64 (pos (length text)))
+      (result_of Bits64 Add (t.registers 10) (Number (immediate Bits64 NEAR))) (Number (immediate Bits64 (pos (length text))))
+      holds (rw frame refl) refl (small_immediate (length text) (omega arith)) in
+      rw (is, read) refl
+
+asks : (input : Input) → IsInput input → (s : State) → Ready input s → (p : Part) (text : List ℕ) → FitsPart IsText p →
+    IsText text → Asks input p text s
+asks input given s ready p text fits is =
+    let r = part_run input given p fits s ready in
+    let t = run_list input (part_code p) s in
+    let has = text_has input text (bytes_of_text text is) is.few t r.ready in
+    let u = run_list input (text_code NEAR text) t in
+    let six = has.kept 6 ∙ r.is in
+    let one = runs_both input (part_code p) (text_code NEAR text ++ stands (length text)) s in
+    let two = runs_both input (text_code NEAR text) (stands (length text)) t in
+    record {
+      state = run_list input (stands (length text)) u;
+      runs = ap On (one ∙ two);
+      ready = asked_ready input u has.ready text is.few r.number six has.holds;
+      answer = asked_answer input u has.ready text is.few r.number six has.holds
+          ∙ ap (λ (o : Option (Option (List ℕ))). Number (length_answer o)) r.names;
+      truth = asked_truth input u has.ready text is.few r.number six has.holds
+          ∙ ap (λ (o : Option (Option (List ℕ))). Number (if stand_at (bytes_of_found o) text 0 then 1 else 0)) r.names
+          ∙ ap Number (begins_is (bytes_of_found (found p input.given)) text);
+    }
+
+module _ (input : Input) (t : State) (ready : Ready input t) (how : Jumps) (n a : ℕ) (c : Bool)
+    (small : immediate Bits64 (pos n) ≡ n) (answer : t.registers 0 ≡ Number a) (truth : t.registers 8 ≡ Number (bit_of c)) where
+  asked_decides : (b : Bool) → is_taken Bits64 how (Number a) (Number n) ≡ b →
+      Decides input (Unless how 0 (Immediate (pos n)) (Plain (set 8 (pos 0) ∷ []))) t (b && c)
+  unfolding state_after
+  asked_decides true is = skip_decides input how 0 (Immediate (pos n)) (Plain (set 8 (pos 0) ∷ [])) t c
+      (rw (answer, small) is) ready truth
+  asked_decides false is = enter_decides input how 0 (Immediate (pos n)) (Plain (set 8 (pos 0) ∷ [])) t false
+      (rw (answer, small) is) (list_decides input (set 8 (pos 0) ∷ []) (goes_to t (t.slot + 1)) false (assumption ready) refl)
+
+text_decides : (input : Input) → IsInput input → (s : State) → Ready input s → (p : Part) (text : List ℕ) (how : Jumps)
+    (n : ℕ) → FitsPart IsText p → IsText text → immediate Bits64 (pos n) ≡ n → Decides input (text_test_code p text how n) s
+    (is_taken Bits64 how (Number (length_answer (found p input.given))) (Number n)
+    && starts_with nat_eq (bytes_of_found (found p input.given)) text)
+unfolding text_test_code
+text_decides input given s ready p text how n fits is small =
+    let a = asks input given s ready p text fits is in
+    let b = is_taken Bits64 how (Number (length_answer (found p input.given))) (Number n) in
+    let c = starts_with nat_eq (bytes_of_found (found p input.given)) text in
+    then_decides input (Plain (part_code p ++ (text_code NEAR text ++ stands (length text))))
+    (Unless how 0 (Immediate (pos n)) (Plain (set 8 (pos 0) ∷ []))) s a.state (b && c) a.runs
+    (asked_decides input a.state a.ready how n (length_answer (found p input.given)) c small a.answer a.truth b refl)
+
+same_truth : (a b : Bool) → (a ≡ true → b ≡ true) → (b ≡ true → a ≡ true) → a ≡ b
+same_truth true b x y = sym (x refl)
+same_truth false true x y = y refl
+same_truth false false x y = refl
+
+equal_texts : (bytes text : List ℕ) → ((length bytes + 2 == length text + 2) && starts_with nat_eq bytes text) ≡ bytes_eq bytes text
+equal_texts bytes text = ⊎_elim
+    (λ same.
+    let long : length bytes + 2 ≡ length text + 2 = omega arith in
+    let test = eq-eqb (length bytes + 2) (length text + 2) long in
+    let all = take_all (length text) bytes (omega arith) in
+    rw (test, all) (same_truth (bytes_eq text bytes) (bytes_eq bytes text)
+    (λ e. (bytes_eq-Decides bytes text).1 (sym ((bytes_eq-Decides text bytes).0 e)))
+    (λ e. (bytes_eq-Decides text bytes).1 (sym ((bytes_eq-Decides bytes text).0 e)))))
+    (λ apart.
+    let test = ne_eqb (length bytes + 2) (length text + 2) (λ e. apart (omega arith)) in
+    rw test (sym (not_true (bytes_eq bytes text) (λ e. apart (ap length ((bytes_eq-Decides bytes text).0 e))))))
+    (cases_eq (length bytes) (length text))
+  where
+    not_true : (b : Bool) → (b ≡ true → ⊥) → b ≡ false
+    not_true true h = absurd (h refl)
+    not_true false h = refl
+
+equal_is : (o : Option (Option (List ℕ))) (text : List ℕ) →
+    ((length_answer o == length text + 2) && starts_with nat_eq (bytes_of_found o) text)
+    ≡ passes_if (λ bytes. bytes_eq bytes text) (unwrap_or o None)
+equal_is None text = let test = ne_eqb 0 (length text + 2) (λ e. omega arith) in rw test refl
+equal_is (Some None) text = let test = ne_eqb 1 (length text + 2) (λ e. omega arith) in rw test refl
+equal_is (Some (Some bytes)) text = equal_texts bytes text
+
+begin_is : (o : Option (Option (List ℕ))) (text : List ℕ) →
+    (nat_le 2 (length_answer o) && starts_with nat_eq (bytes_of_found o) text)
+    ≡ passes_if (λ bytes. starts_with nat_eq bytes text) (unwrap_or o None)
+begin_is None text = refl
+begin_is (Some None) text = refl
+begin_is (Some (Some bytes)) text = let test = le-leb 2 (length bytes + 2) (omega arith) in rw test refl
+
+module _ (input : Input) (given : IsInput input) (s : State) (ready : Ready input s) where
+  equal_decides : (p : Part) (text : List ℕ) → FitsPart IsText p → IsText text →
+      Decides input (text_test_code p text jumps.Equal (length text + 2)) s (test_equals p text input.given)
+  equal_decides p text fits is =
+      let few = is.few in
+      subst (Decides input (text_test_code p text jumps.Equal (length text + 2)) s)
+      (equal_is (found p input.given) text
+      ∙ ap (passes_if (λ bytes. bytes_eq bytes text)) (sym (bytes_found p input.given)))
+      (text_decides input given s ready p text jumps.Equal (length text + 2) fits is
+      (small_immediate (length text + 2) (omega arith)))
+
+  begin_decides : (p : Part) (text : List ℕ) → FitsPart IsText p → IsText text →
+      Decides input (text_test_code p text jumps.GreaterOrEqual 2) s (test_begins p text input.given)
+  begin_decides p text fits is =
+      subst (Decides input (text_test_code p text jumps.GreaterOrEqual 2) s)
+      (begin_is (found p input.given) text
+      ∙ ap (passes_if (λ bytes. starts_with nat_eq bytes text)) (sym (bytes_found p input.given)))
+      (text_decides input given s ready p text jumps.GreaterOrEqual 2 fits is refl)
+
+-- ---- numbers of 64 bits
+
+half_immediate : (n : ℕ) → n < 2 ^ 32 → immediate Bits32 (cast_signed w32 n) % 2 ^ 32 ≡ n
+half_immediate n small = rw (of_z-to_z w32 n small) (omega arith)
+
+put_together : (n high low : ℕ) → n < 2 ^ 64 → high ≡ n / 2 ^ 32 → low ≡ n % 2 ^ 32 →
+    (high * 2 ^ 32 % 2 ^ 64 + low) % 2 ^ 64 ≡ n
+put_together n high low small x y = omega arith
+
+-- r0 or r1 has a number, and r8 and r0 stay where r1 has it
+pub record Puts (input : Input) (list : List Instruction) (s : State) (register n : ℕ) : Type 0 where
+  pub ready : Ready input s → Ready input (run_list input list s)
+  pub number : (run_list input list s).registers register ≡ Number n
+  pub truth : (run_list input list s).registers 8 ≡ s.registers 8
+  pub answer : register ≡ 1 → (run_list input list s).registers 0 ≡ s.registers 0
+
+module _ (input : Input) (s : State) (n : ℕ) (small : n < 2 ^ 64) where
+  pub puts_answer : Puts input (number_code 0 n) s 0 n
+  unfolding state_after
+  puts_answer = cond_both (nat_lt n (2 ^ 31)) _ _ (λ list. Puts input list s 0 n)
+      (λ e. record {
+        ready = λ r. assumption r;
+        number = ap Number (small_immediate n (ltb-true n (2 ^ 31) e));
+        truth = refl;
+        answer = λ other. absurd (omega arith);
+      })
+      (λ e. record {
+        ready = λ r. assumption r;
+        number = ap Number (put_together n _ _ small (half_immediate (n / 2 ^ 32) (omega arith)) (half_immediate (n % 2 ^ 32) (omega arith)));
+        truth = refl;
+        answer = λ other. absurd (omega arith);
+      })
+
+  pub puts_other : Puts input (number_code 1 n) s 1 n
+  unfolding state_after
+  puts_other = cond_both (nat_lt n (2 ^ 31)) _ _ (λ list. Puts input list s 1 n)
+      (λ e. record {
+        ready = λ r. assumption r;
+        number = ap Number (small_immediate n (ltb-true n (2 ^ 31) e));
+        truth = refl;
+        answer = λ same. refl;
+      })
+      (λ e. record {
+        ready = λ r. assumption r;
+        number = ap Number (put_together n _ _ small (half_immediate (n / 2 ^ 32) (omega arith)) (half_immediate (n % 2 ^ 32) (omega arith)));
+        truth = refl;
+        answer = λ same. refl;
+      })
+
+-- ---- comparisons
+
+taken_is : (how : Comparison) (a b : ℕ) → is_taken Bits64 (test_of how) (Number a) (Number b) ≡ compares how a b
+taken_is comparison.Equal a b = refl
+taken_is comparison.NotEqual a b = refl
+taken_is comparison.Less a b = refl
+taken_is comparison.LessOrEqual a b = refl
+taken_is comparison.Greater a b = refl
+taken_is comparison.GreaterOrEqual a b = refl
+
+module _ (input : Input) (how : Comparison) (t : State) (ready : Ready input t) (a n : ℕ)
+    (answer : t.registers 0 ≡ Number a) (number : t.registers 1 ≡ Number n) (truth : t.registers 8 ≡ Number 1) where
+  cleared : (b : Bool) → compares how a n ≡ b →
+      Decides input (Unless (test_of how) 0 (Register 1) (Plain (set 8 (pos 0) ∷ []))) t b
+  unfolding state_after
+  cleared true is =
+      skip_decides input (test_of how) 0 (Register 1) (Plain (set 8 (pos 0) ∷ [])) t true
+      (rw (answer, number) (taken_is how a n ∙ is)) ready truth
+  cleared false is =
+      enter_decides input (test_of how) 0 (Register 1) (Plain (set 8 (pos 0) ∷ [])) t false
+      (rw (answer, number) (taken_is how a n ∙ is))
+      (list_decides input (set 8 (pos 0) ∷ []) (goes_to t (t.slot + 1)) false (assumption ready) refl)
+
+module _ (input : Input) (how : Comparison) (n : ℕ) (small : n < 2 ^ 64) where
+  compared : (t : State) (a : ℕ) → Ready input t → t.registers 8 ≡ Number 1 → t.registers 0 ≡ Number a →
+      Decides input (comparing_code how n) t (compares how a n)
+  unfolding comparing_code
+  compared t a ready truth answer =
+      let puts = puts_other input t n small in
+      let u = run_list input (number_code 1 n) t in
+      let d = cleared input how u (puts.ready ready) a n (puts.answer refl ∙ answer) puts.number (puts.truth ∙ truth)
+      (compares how a n) refl in
+      then_decides input (Plain (number_code 1 n)) (Unless (test_of how) 0 (Register 1) (Plain (set 8 (pos 0) ∷ []))) t u
+      (compares how a n) refl d
+
+  abbrev comparing : Code
+  comparing = Unless jumps.Equal 8 (Immediate (pos 0)) (comparing_code how n)
+
+  compares_term : (t : State) (o : Option ℕ) → Ready input t → HasTerm o t → Decides input comparing t (compares_if how o n)
+  compares_term t None ready truth =
+      skip_decides input jumps.Equal 8 (Immediate (pos 0)) (comparing_code how n) t false (rw truth refl) ready truth
+  compares_term t (Some a) ready has =
+      enter_decides input jumps.Equal 8 (Immediate (pos 0)) (comparing_code how n) t (compares how a n) (rw has.0 refl)
+      (compared (goes_to t (t.slot + 1)) a (assumption ready) has.0 has.1)
+
+module _ (input : Input) (given : IsInput input) where
+  compare_decides : (t : Term) (how : Comparison) (n : ℕ) → term_has_code t ≡ true → FitsTerm IsText t → n < 2 ^ 64 → (s : State) →
+      Ready input s → Decides input (compare_code t how n) s (compares_if how (term_value t input.given input.place) n)
+  unfolding compare_code
+  compare_decides t how n has fits small s ready =
+      let v = term_values input given s ready t has fits in
+      let d = compares_term input how n small v.state (term_value t input.given input.place) v.ready v.has in
+      then_decides input (term_code t) (Unless jumps.Equal 8 (Immediate (pos 0)) (comparing_code how n)) s v.state
+      (compares_if how (term_value t input.given input.place) n) v.runs d
+
+  test_decides : (t : Tests) → test_has_code t ≡ true → FitsTest IsText t → (s : State) → Ready input s →
+      Decides input (test_code t) s (test_holds t input.given input.place)
+  unfolding test_code
+  test_decides (test.Null p) has fits s ready = null_decides input given s ready p fits
+  test_decides (test.Absent p) has fits s ready = absent_decides input given s ready p fits
+  test_decides (test.Equal p text) has fits s ready = equal_decides input given s ready p text fits.0 fits.1
+  test_decides (test.Begins p text) has fits s ready = begin_decides input given s ready p text fits.0 fits.1
+  test_decides (test.Has p text) has fits s ready = has_decides input given s ready p text fits.0 fits.1
+  test_decides (test.Compare t how n) has fits s ready =
+      compare_decides t how n has fits.0 (omega (arith, fits.1.high_is)) s ready
+
+-- ---- conditions
+
+module _ (input : Input) (t : State) (ready : Ready input t) where
+  turned : (b : Bool) → t.registers 8 ≡ Number (bit_of b) → Decides input (Plain (change Xor 8 (pos 1) ∷ [])) t (not b)
+  unfolding state_after
+  turned true truth = list_decides input (change Xor 8 (pos 1) ∷ []) t false (assumption ready) (rw truth refl)
+  turned false truth = list_decides input (change Xor 8 (pos 1) ∷ []) t true (assumption ready) (rw truth refl)
+
+  -- a condition behind `and` and `or`, where the one before it does not decide
+  both_decides : (other : Code) (b c : Bool) → t.registers 8 ≡ Number (bit_of b) →
+      ((u : State) → Ready input u → Decides input other u c) →
+      Decides input (Unless jumps.Equal 8 (Immediate (pos 0)) other) t (b && c)
+  both_decides other false c truth go =
+      skip_decides input jumps.Equal 8 (Immediate (pos 0)) other t false (rw truth refl) ready truth
+  both_decides other true c truth go =
+      enter_decides input jumps.Equal 8 (Immediate (pos 0)) other t c (rw truth refl) (go (goes_to t (t.slot + 1)) (assumption ready))
+
+  either_decides : (other : Code) (b c : Bool) → t.registers 8 ≡ Number (bit_of b) →
+      ((u : State) → Ready input u → Decides input other u c) →
+      Decides input (Unless jumps.NotEqual 8 (Immediate (pos 0)) other) t (b || c)
+  either_decides other true c truth go =
+      skip_decides input jumps.NotEqual 8 (Immediate (pos 0)) other t true (rw truth refl) ready truth
+  either_decides other false c truth go =
+      enter_decides input jumps.NotEqual 8 (Immediate (pos 0)) other t c (rw truth refl) (go (goes_to t (t.slot + 1)) (assumption ready))
+
+module _ (input : Input) (given : IsInput input) where
+  pub condition_decides : (c : Formula) → formula_has_code c ≡ true → HasFitting IsText c → (s : State) →
+      Ready input s → Decides input (condition_code c) s (holds c input.given input.place)
+  unfolding condition_code
+  condition_decides (Single t) has fits s ready = test_decides input given t has fits s ready
+  condition_decides (Negated inner) has fits s ready =
+      let b = holds inner input.given input.place in
+      let d = condition_decides inner has fits s ready in
+      then_decides input (condition_code inner) (Plain (change Xor 8 (pos 1) ∷ [])) s d.state (not b) d.runs
+      (turned input d.state d.ready b d.truth)
+  condition_decides (Both one other) has fits s ready =
+      let both = and_parts _ _ has in
+      let b = holds one input.given input.place in
+      let c = holds other input.given input.place in
+      let d = condition_decides one both.0 fits.0 s ready in
+      then_decides input (condition_code one) (Unless jumps.Equal 8 (Immediate (pos 0)) (condition_code other)) s d.state
+      (b && c) d.runs (both_decides input d.state d.ready (condition_code other) b c d.truth
+      (λ u clear. condition_decides other both.1 fits.1 u clear))
+  condition_decides (Either one other) has fits s ready =
+      let both = and_parts _ _ has in
+      let b = holds one input.given input.place in
+      let c = holds other input.given input.place in
+      let d = condition_decides one both.0 fits.0 s ready in
+      then_decides input (condition_code one) (Unless jumps.NotEqual 8 (Immediate (pos 0)) (condition_code other)) s d.state
+      (b || c) d.runs (either_decides input d.state d.ready (condition_code other) b c d.truth
+      (λ u clear. condition_decides other both.1 fits.1 u clear))

@@ -1,0 +1,388 @@
+-- The flow of each term, test and condition.
+use Rattle.std.proofs.Common.{◌≡◌, ℕ, ◌+◌, ◌^◌, ◌≤◌, pos, length, true, false, List, [], ◌∷◌, ◌++◌}
+use Rattle.std.proofs.Common.{Option, Some, None, refl, arith, nat_lt, ℤ, ◌⊎◌, ⊎_elim, inl, inr}
+use Rattle.std.proofs.lemmas.Bool.{cond_both, and_parts}
+use Rattle.wire_spec.specs.declared.limits.TheConstants.{MAX_VALUE}
+use Rattle.machine_spec.specs.declared.{helper.TheConstants.HELPERS, instruction.Region.Region}
+use Rattle.machine_spec.specs.declared.instruction.Instruction.{Instruction}
+use Rattle.machine_spec.specs.declared.instruction.Instruction.TheVariants.{Move, Compute, JumpIf, Call}
+use Rattle.machine_spec.specs.declared.operation.Width.TheVariants.{Bits32, Bits64}
+use Rattle.std.specs.Int.Count.{count_leading_zeros}
+use Rattle.machine_spec.specs.declared.instruction.Source.TheVariants.{Register, Immediate}
+use Rattle.machine_spec.specs.declared.operation.{Test.Test as Jumps, Operation.TheVariants.Xor, Operation.TheVariants.Add}
+use Rattle.machine_spec.specs.declared.operation.Operation.TheVariants.{LeftShift}
+use Rattle.machine_spec.specs.declared.operation.Test.TheVariants as jumps
+use Rattle.verifier_spec.specs.declared.{state.Abs.Abs, state.Abstract.Abstract, state.StackSet.StackSet}
+use Rattle.machine_spec.specs.Values.{immediate}
+use Rattle.verifier_spec.specs.declared.interval.Interval.{Interval}
+use Rattle.verifier_spec.specs.{Intervals.from_to, Annotation.is_edge_covered}
+use Rattle.verifier_spec.specs.Transfer.{with_range, with_kind, narrowed_range}
+use Rattle.verifier_spec.proofs.Safety.{failed_from}
+use Rattle.verifier_spec.specs.States.{is_within, is_proper, each_below}
+use Rattle.verifier_spec.specs.{Checks.failed_check}
+use Rattle.machine_spec.specs.Signatures.{helper_among}
+use Rattle.verifier_spec.specs.{Transfer.falls_to, Transfer.jumps_to}
+use Rattle.verifier_spec.proofs.{Joins.within_refl}
+use Rattle.rules.specs.declared.{rule.Part.Part, rule.Term.Term, rule.Comparison.Comparison}
+use Rattle.rules.specs.declared.{rule.Test.Test as Tests}
+use Rattle.rules.specs.declared.rule.Term.TheVariants as term
+use Rattle.rules.specs.declared.rule.Test.TheVariants as test
+use Rattle.rules.specs.Lines.{Formula, Single, Negated, Both, Either}
+use Rattle.rules_compiler.specs.Coverage.{term_has_code, test_has_code, formula_has_code}
+use Rattle.rules_compiler.specs.Code.{Code, Plain, Then, Unless}
+use Rattle.rules_compiler.specs.Pieces.{set, copy, change, high_half, low_half, word_count, text_code, part_code}
+use Rattle.rules_compiler.specs.Terms.{count_code, decimal_code, answer_code, term_code}
+use Rattle.rules_compiler.specs.Tests.{name_text, stands, text_test_code, length_test_code, test_of, comparing_code, compare_code, test_code}
+use Rattle.rules_compiler.specs.Rules.{condition_code}
+use Rattle.rules.specs.Limits.{IsText, FitsPart, FitsTerm, FitsTest, HasFitting}
+use Rattle.rules_compiler.proofs.Ready.{small_immediate}
+use Rattle.rules_compiler.proofs.Parts.{part_flow}
+use Rattle.rules_compiler.proofs.Texts.{LeadsTo, leads_both, shape, words_of, named_rightly, text_leads, text_set}
+use Rattle.rules_compiler.specs.declared.pieces.TheConstants.{NEAR}
+use Rattle.rules_compiler.proofs.Flows.{Flow, Passing, Skips, pass, after, after_proper}
+use Rattle.rules_compiler.proofs.SearchFlows.{has_flow}
+use Rattle.rules_compiler.proofs.Layouts.{layout_flow}
+use Rattle.rules_compiler.proofs.States.{bit, decided, known, length_flow}
+use Rattle.rules_compiler.proofs.States.{loosely, measured, numbered, passing_from}
+use Rattle.rules_compiler.proofs.States.{settled, straight, valued}
+
+pub count_flow : (p : Part) → FitsPart IsText p → Flow (count_code p) settled valued
+unfolding count_code failed_check falls_to jumps_to each_below is_proper helper_among
+count_flow p fits = (
+  measured,
+  refl,
+  length_flow p fits,
+  (
+    known (Abs.Num 2 (MAX_VALUE + 2)) (Abs.Num 0 0),
+    record {
+      checked = refl;
+      proper = refl;
+      falls = within_refl (known (Abs.Num 2 (MAX_VALUE + 2)) (Abs.Num 0 0));
+      jumps = loosely _ valued refl refl refl refl;
+    },
+    record { passed = refl; within = loosely _ valued refl refl refl refl },
+  ),
+)
+
+abbrev pub decimal_list : ℕ → ℕ → List Instruction
+decimal_list place count = copy 1 6 ∷ set 2 (pos place) ∷ set 3 (pos count) ∷ Call (pos 17) ∷ set 8 (pos 0) ∷ []
+
+pub decimal_leads : (answer : Abs) (low high : ℕ) (places : StackSet) (place count : ℕ) →
+    LeadsTo (decimal_list place count) (numbered answer low high Abs.None places)
+    (numbered (Abs.Num 0 (10 ^ 18)) low high (Abs.Num 0 0) places)
+unfolding failed_check falls_to helper_among
+decimal_leads answer low high places place count = record { passed = refl; is = refl }
+
+pub decimal_flow : (p : Part) (place count : ℕ) → FitsPart IsText p → Flow (decimal_code p place count) settled valued
+unfolding decimal_code failed_check falls_to jumps_to each_below is_proper helper_among
+decimal_flow p place count fits =
+    let f = part_flow p fits in (
+      known (Abs.Num 0 (10 ^ 18)) (Abs.Num 0 0),
+      refl,
+      passing_from (part_code p ++ decimal_list place count) settled
+          (numbered (Abs.Num 0 (10 ^ 18)) f.low f.high (Abs.Num 0 0) f.places) (known (Abs.Num 0 (10 ^ 18)) (Abs.Num 0 0))
+          (leads_both (part_code p) (decimal_list place count) settled (numbered f.answer f.low f.high Abs.None f.places)
+          (numbered (Abs.Num 0 (10 ^ 18)) f.low f.high (Abs.Num 0 0) f.places) f.leads
+          (decimal_leads f.answer f.low f.high f.places place count))
+          (loosely (numbered (Abs.Num 0 (10 ^ 18)) f.low f.high (Abs.Num 0 0) f.places) (known (Abs.Num 0 (10 ^ 18)) (Abs.Num 0 0))
+          refl refl refl refl),
+      (
+        known (Abs.Num 1 (10 ^ 18)) (Abs.Num 0 0),
+        record {
+          checked = refl;
+          proper = refl;
+          falls = within_refl (known (Abs.Num 1 (10 ^ 18)) (Abs.Num 0 0));
+          jumps = loosely _ valued refl refl refl refl;
+        },
+        record { passed = refl; within = loosely _ valued refl refl refl refl },
+      ),
+    )
+
+pub term_flow : (t : Term) → term_has_code t ≡ true → FitsTerm IsText t → Flow (term_code t) settled valued
+unfolding term_code answer_code failed_check falls_to each_below helper_among
+term_flow (term.Length p) has fits = count_flow p fits
+term_flow (term.Number layout p place) has fits = layout_flow layout p place fits.0
+term_flow (term.Decimal p place count) has fits = decimal_flow p place count fits.0
+term_flow term.Offset has fits = record { passed = refl; within = loosely _ valued refl refl refl refl }
+term_flow term.Timestamp has fits = record { passed = refl; within = loosely _ valued refl refl refl refl }
+term_flow term.Partition has fits = record { passed = refl; within = loosely _ valued refl refl refl refl }
+term_flow term.Headers has fits = record { passed = refl; within = loosely _ valued refl refl refl refl }
+
+-- ---- tests
+
+pub length_test_flow : (p : Part) (number : ℤ) → FitsPart IsText p → (number ≡ pos 0) ⊎ (number ≡ pos 1) → Flow (length_test_code p number) settled decided
+unfolding length_test_code failed_check falls_to jumps_to each_below is_proper helper_among
+length_test_flow p number fits is = ⊎_elim
+    (λ none. rw none (
+      measured,
+      refl,
+      length_flow p fits,
+      (
+        known (Abs.Num 0 0) (Abs.Num 0 0),
+        record {
+          checked = refl;
+          proper = refl;
+          falls = within_refl (known (Abs.Num 0 0) (Abs.Num 0 0));
+          jumps = loosely _ decided refl refl refl refl;
+        },
+        record { passed = refl; within = loosely _ decided refl refl refl refl },
+      ),
+    ))
+    (λ one. rw one (
+      measured,
+      refl,
+      length_flow p fits,
+      (
+        known (Abs.Num 1 1) (Abs.Num 0 0),
+        record {
+          checked = refl;
+          proper = refl;
+          falls = within_refl (known (Abs.Num 1 1) (Abs.Num 0 0));
+          jumps = loosely _ decided refl refl refl refl;
+        },
+        record { passed = refl; within = loosely _ decided refl refl refl refl },
+      ),
+    ))
+    is
+
+-- r0 is compared with a number in r1, where a list of instructions puts one there
+abbrev pub comparison_of : Jumps → List Instruction → Code
+comparison_of how list = Then (Plain list) (Unless how 0 (Register 1) (Plain (set 8 (pos 0) ∷ [])))
+
+abbrev pub comparing_jump : Jumps → Instruction
+comparing_jump how = JumpIf Bits64 how 0 (Register 1) (pos 1)
+
+pub listed_flow : (how : Jumps) (list : List Instruction) → pass list valued ≡ true →
+    failed_check HELPERS (comparing_jump how) (after list valued) ≡ None →
+    is_within (after list valued) decided ≡ true → Passing (set 8 (pos 0) ∷ []) (after list valued) decided →
+    Flow (comparison_of how list) valued decided
+unfolding falls_to jumps_to is_proper
+listed_flow how list passed checked within block =
+    let skips : Skips (comparing_jump how) (after list valued) (after list valued) decided = record {
+      checked = checked;
+      proper = after_proper list valued passed refl;
+      falls = within_refl (after list valued);
+      jumps = within;
+    } in
+    straight list (Unless how 0 (Register 1) (Plain (set 8 (pos 0) ∷ []))) valued decided passed refl
+    (after list valued, skips, block)
+
+abbrev pub small_list : ℕ → List Instruction
+small_list n = set 1 (pos n) ∷ []
+
+abbrev pub great_list : ℕ → List Instruction
+great_list n = Move Bits32 1 (Immediate (high_half n)) ∷ change LeftShift 1 (pos 32)
+    ∷ Move Bits32 2 (Immediate (low_half n)) ∷ Compute Bits64 Add 1 (Register 2) ∷ []
+
+pub comparing_flow : (how : Comparison) (n : ℕ) → Flow (comparing_code how n) valued decided
+unfolding comparing_code failed_check falls_to jumps_to each_below is_proper helper_among
+comparing_flow how n = cond_both (nat_lt n (2 ^ 31)) (small_list n) (great_list n)
+    (λ list. Flow (comparison_of (test_of how) list) valued decided)
+    (λ small. listed_flow (test_of how) (small_list n) refl refl
+    (loosely (after (small_list n) valued) decided refl refl refl refl)
+    (record {
+      passed = refl;
+      within = loosely (after (set 8 (pos 0) ∷ []) (after (small_list n) valued)) decided refl refl refl refl;
+    }))
+    (λ great. listed_flow (test_of how) (great_list n) refl refl
+    (loosely (after (great_list n) valued) decided refl refl refl refl)
+    (record {
+      passed = refl;
+      within = loosely (after (set 8 (pos 0) ∷ []) (after (great_list n) valued)) decided refl refl refl refl;
+    }))
+
+pub compare_flow : (t : Term) (how : Comparison) (n : ℕ) → term_has_code t ≡ true → FitsTerm IsText t →
+    Flow (compare_code t how n) settled decided
+unfolding compare_code failed_check falls_to jumps_to each_below is_proper helper_among
+compare_flow t how n has fits = (
+  valued,
+  refl,
+  term_flow t has fits,
+  (
+    valued,
+    record {
+      checked = refl;
+      proper = refl;
+      falls = loosely _ valued refl refl refl refl;
+      jumps = loosely _ decided refl refl refl refl;
+    },
+    comparing_flow how n,
+  ),
+)
+
+-- ---- texts
+
+-- a text that r3 and r4 name in the stack, beside a part that r1 and r6 have
+module _ (answer : Abs) (low high : ℕ) (places : StackSet) (size : ℕ) (few : size ≤ 255) where
+  abbrev pub beside : Abstract
+  beside = shape answer (Abs.Num low high) (Abs.Num 0 0) (Abs.Addr Region.Stack (pos 256) (pos 256))
+      (Abs.Num (immediate Bits64 (pos size)) (immediate Bits64 (pos size))) Abs.None (Abs.Num low high) Abs.None
+      (words_of places (word_count size))
+
+  pub equals_check : failed_check HELPERS (Call (pos 16)) beside ≡ None
+  unfolding helper_among
+  equals_check = failed_from HELPERS (Call (pos 16)) beside (record {
+    frame = refl;
+    helper = refl;
+    unset = refl;
+    operands = refl;
+    base = refl;
+    condition = refl;
+    record_write = refl;
+    record_bounds = refl;
+    stack_bounds = refl;
+    stack_unset = refl;
+    argument = rw (named_rightly beside (immediate Bits64 (pos size)) size (small_immediate size (omega arith)) few
+        (λ q from to. text_set places size q few from to)) refl;
+    exit = refl;
+  })
+
+  pub names_lead : LeadsTo (name_text size) (numbered answer low high Abs.None (words_of places (word_count size))) beside
+  unfolding failed_check falls_to helper_among
+  names_lead = record { passed = refl; is = refl }
+
+  pub equals_lead : LeadsTo (Call (pos 16) ∷ []) beside
+      (numbered (Abs.Num 0 1) low high Abs.None (words_of places (word_count size)))
+  unfolding falls_to helper_among
+  equals_lead = record { passed = rw equals_check refl; is = refl }
+
+  pub rest_lead : LeadsTo (copy 8 0 ∷ copy 1 6 ∷ Call (pos 13) ∷ [])
+      (numbered (Abs.Num 0 1) low high Abs.None (words_of places (word_count size)))
+      (numbered (Abs.Num 0 (MAX_VALUE + 2)) low high bit (words_of places (word_count size)))
+  unfolding failed_check falls_to helper_among
+  rest_lead = record { passed = refl; is = refl }
+
+  pub stands_lead : LeadsTo (stands size) (numbered answer low high Abs.None (words_of places (word_count size)))
+      (numbered (Abs.Num 0 (MAX_VALUE + 2)) low high bit (words_of places (word_count size)))
+  stands_lead = leads_both (name_text size) (Call (pos 16) ∷ copy 8 0 ∷ copy 1 6 ∷ Call (pos 13) ∷ [])
+      (numbered answer low high Abs.None (words_of places (word_count size))) beside
+      (numbered (Abs.Num 0 (MAX_VALUE + 2)) low high bit (words_of places (word_count size))) names_lead
+      (leads_both (Call (pos 16) ∷ []) (copy 8 0 ∷ copy 1 6 ∷ Call (pos 13) ∷ []) beside
+      (numbered (Abs.Num 0 1) low high Abs.None (words_of places (word_count size)))
+      (numbered (Abs.Num 0 (MAX_VALUE + 2)) low high bit (words_of places (word_count size))) equals_lead rest_lead)
+
+-- r0 has what the helper says of a length, and r8 whether the part begins with a text
+abbrev pub asked : Abstract
+asked = known (Abs.Num 0 (MAX_VALUE + 2)) bit
+
+-- a jump by r0 leaves r8
+pub edge_decided : (o : Option Interval) → is_edge_covered (with_range asked 0 (Abs.Num 0 (MAX_VALUE + 2)) o) (Some decided) ≡ true
+unfolding each_below
+edge_decided None = refl
+edge_decided (Some range) =
+    loosely (with_kind asked 0 (Abs.Num range.low range.high)) decided refl refl refl refl
+
+pub asking_flow : (how : Jumps) (number : ℕ) → Flow (Unless how 0 (Immediate (pos number)) (Plain (set 8 (pos 0) ∷ []))) asked decided
+unfolding failed_check falls_to jumps_to each_below is_proper
+asking_flow how number = (
+  decided,
+  record {
+    checked = refl;
+    proper = refl;
+    falls = edge_decided (narrowed_range Bits64 how false (Some (from_to 0 (MAX_VALUE + 2))) (immediate Bits64 (pos number)));
+    jumps = edge_decided (narrowed_range Bits64 how true (Some (from_to 0 (MAX_VALUE + 2))) (immediate Bits64 (pos number)));
+  },
+  record { passed = refl; within = loosely _ decided refl refl refl refl },
+)
+
+pub asked_flow : (p : Part) (text : List ℕ) → FitsPart IsText p → IsText text →
+    Passing (part_code p ++ (text_code NEAR text ++ stands (length text))) settled asked
+unfolding each_below
+asked_flow p text fits is =
+    let f = part_flow p fits in
+    let before = numbered f.answer f.low f.high Abs.None f.places in
+    let held = numbered f.answer f.low f.high Abs.None (words_of f.places (word_count (length text))) in
+    let behind = numbered (Abs.Num 0 (MAX_VALUE + 2)) f.low f.high bit (words_of f.places (word_count (length text))) in
+    passing_from (part_code p ++ (text_code NEAR text ++ stands (length text))) settled behind asked
+    (leads_both (part_code p) (text_code NEAR text ++ stands (length text)) settled before behind f.leads
+    (leads_both (text_code NEAR text) (stands (length text)) before held behind
+    (text_leads f.answer Abs.None Abs.None Abs.None Abs.None Abs.None (Abs.Num f.low f.high) Abs.None text is.few f.places)
+    (stands_lead f.answer f.low f.high f.places (length text) is.few)))
+    (loosely behind asked refl refl refl refl)
+
+pub text_test_flow : (p : Part) (text : List ℕ) (how : Jumps) (number : ℕ) → FitsPart IsText p → IsText text →
+    Flow (text_test_code p text how number) settled decided
+unfolding text_test_code is_proper
+text_test_flow p text how number fits is = (asked, refl, asked_flow p text fits is, asking_flow how number)
+
+pub test_flow : (t : Tests) → test_has_code t ≡ true → FitsTest IsText t → Flow (test_code t) settled decided
+unfolding test_code
+test_flow (test.Null p) has fits = length_test_flow p (pos 1) fits (inr refl)
+test_flow (test.Absent p) has fits = length_test_flow p (pos 0) fits (inl refl)
+test_flow (test.Equal p text) has fits = text_test_flow p text jumps.Equal (length text + 2) fits.0 fits.1
+test_flow (test.Begins p text) has fits = text_test_flow p text jumps.GreaterOrEqual 2 fits.0 fits.1
+test_flow (test.Has p text) has fits = has_flow p text fits.0 fits.1
+test_flow (test.Compare t how number) has fits = compare_flow t how number has fits.0
+
+-- ---- conditions
+
+-- a block that is left out where r8 is 0, or where it is not
+pub skip_flow : (block : Code) (b : Abstract) → is_within (known Abs.None (Abs.Num 0 0)) b ≡ true → Flow block settled b →
+    Flow (Unless jumps.Equal 8 (Immediate (pos 0)) block) decided b
+unfolding failed_check falls_to jumps_to each_below is_proper helper_among
+skip_flow block b within f = (
+  settled,
+  record {
+    checked = refl;
+    proper = refl;
+    falls = loosely _ settled refl refl refl refl;
+    jumps = within;
+  },
+  f,
+)
+
+pub skip_not_flow : (block : Code) → Flow block settled decided →
+    Flow (Unless jumps.NotEqual 8 (Immediate (pos 0)) block) decided decided
+unfolding failed_check falls_to jumps_to each_below is_proper helper_among
+skip_not_flow block f = (
+  settled,
+  record {
+    checked = refl;
+    proper = refl;
+    falls = loosely _ settled refl refl refl refl;
+    jumps = loosely _ decided refl refl refl refl;
+  },
+  f,
+)
+
+pub zero_decided : is_within (known Abs.None (Abs.Num 0 0)) decided ≡ true
+unfolding each_below
+zero_decided = loosely _ decided refl refl refl refl
+
+pub zero_settled : is_within (known Abs.None (Abs.Num 0 0)) settled ≡ true
+unfolding each_below
+zero_settled = loosely _ settled refl refl refl refl
+
+pub decided_proper : is_proper decided ≡ true
+unfolding is_proper
+decided_proper = refl
+
+pub settled_proper : is_proper settled ≡ true
+unfolding is_proper
+settled_proper = refl
+
+pub negated_flow : Passing (change Xor 8 (pos 1) ∷ []) decided decided
+unfolding failed_check falls_to each_below helper_among count_leading_zeros
+negated_flow = record {
+  passed = refl;
+  within = loosely (after (change Xor 8 (pos 1) ∷ []) decided) decided refl refl refl refl;
+}
+
+pub condition_flow : (c : Formula) → formula_has_code c ≡ true → HasFitting IsText c → Flow (condition_code c) settled decided
+unfolding condition_code
+condition_flow (Single t) has fits = test_flow t has fits
+condition_flow (Negated inner) has fits = (decided, decided_proper, condition_flow inner has fits, negated_flow)
+condition_flow (Both one other) has fits =
+    let both = and_parts _ _ has in (
+      decided,
+      decided_proper,
+      condition_flow one both.0 fits.0,
+      skip_flow (condition_code other) decided zero_decided (condition_flow other both.1 fits.1),
+    )
+condition_flow (Either one other) has fits =
+    let both = and_parts _ _ has in (
+      decided,
+      decided_proper,
+      condition_flow one both.0 fits.0,
+      skip_not_flow (condition_code other) (condition_flow other both.1 fits.1),
+    )

@@ -1,0 +1,80 @@
+-- The code of terms: r8 gets whether the record has one, and r0 its value.
+use Rattle.std.specs.Prelude.{ℕ, ℤ, pos, List, [], ◌∷◌, ◌++◌}
+use Rattle.machine_spec.specs.declared.instruction.Instruction.{Instruction}
+use Rattle.machine_spec.specs.declared.instruction.Instruction.TheVariants.{Load, Unary, Call}
+use Rattle.machine_spec.specs.declared.instruction.{Size.Size, Extension.TheVariants.Zero}
+use Rattle.machine_spec.specs.declared.operation.SwappedWidth.{SwappedWidth}
+use Rattle.machine_spec.specs.declared.operation.SwappedWidth.TheVariants.{Bits16, Bits32, Bits64}
+use Rattle.machine_spec.specs.declared.operation.Change.TheVariants.{Order}
+use Rattle.machine_spec.specs.declared.operation.ByteOrder.TheVariants.{BigEndian}
+use Rattle.machine_spec.specs.declared.instruction.Source.TheVariants.{Immediate}
+use Rattle.machine_spec.specs.declared.operation.Operation.TheVariants.{Add, Sub}
+use Rattle.machine_spec.specs.declared.operation.Test.TheVariants.{NotEqual, Less}
+use Rattle.rules.specs.declared.{rule.Part.Part, rule.Layout.Layout, rule.Term.Term}
+use Rattle.rules.specs.declared.rule.Layout.TheVariants.{Byte, U16Be, U32Be, U64Be, U16Le, U32Le, U64Le}
+use Rattle.rules.specs.Meaning.{layout_size}
+use Rattle.rules.specs.declared.rule.Term.TheVariants as term
+use Rattle.rules_compiler.specs.declared.pieces.TheConstants.{ANSWER, PART, TRUTH, FRAME, NEAR}
+use Rattle.rules_compiler.specs.Code.{Code, Plain, Then, Unless}
+use Rattle.rules_compiler.specs.Pieces.{set, copy, change, part_code, measure}
+
+-- what a helper answered is a term, and so much more than its value, unless it is less than that
+abbrev pub answered : ℤ → Code
+answered more = Unless Less ANSWER (Immediate more) (Plain (change Sub ANSWER more ∷ set TRUTH (pos 1) ∷ []))
+
+unfoldable pub count_code : Part → Code
+count_code p = Then (Plain (part_code p ++ measure)) (answered (pos 2))
+
+unfoldable pub decimal_code : Part → (place count : ℕ) → Code
+decimal_code p place count = Then (Plain (part_code p ++ (copy 1 PART ∷ set 2 (pos place) ∷ set 3 (pos count)
+    ∷ Call (pos 17) ∷ set TRUTH (pos 0) ∷ []))) (answered (pos 1))
+
+-- what a helper answers of every record
+unfoldable pub answer_code : ℤ → Code
+answer_code helper = Plain (Call helper ∷ set TRUTH (pos 1) ∷ [])
+
+-- how many bytes are loaded
+abbrev pub size_of : Layout → Size
+size_of Byte = Size.Byte
+size_of U16Be = Size.Half
+size_of U32Be = Size.Word
+size_of U64Be = Size.Double
+size_of U16Le = Size.Half
+size_of U32Le = Size.Word
+size_of U64Le = Size.Double
+
+-- the highest byte of r0 comes first
+abbrev pub turned : SwappedWidth → Instruction
+turned width = Unary (Order BigEndian width) ANSWER ANSWER
+
+-- the bytes of r0 as the layout orders them
+abbrev pub ordered : Layout → Instruction
+ordered Byte = copy ANSWER ANSWER
+ordered U16Be = turned Bits16
+ordered U32Be = turned Bits32
+ordered U64Be = turned Bits64
+ordered U16Le = copy ANSWER ANSWER
+ordered U32Le = copy ANSWER ANSWER
+ordered U64Le = copy ANSWER ANSWER
+
+-- so many bytes of the part from a place on are copied to the stack; r0 gets 0 where they are there
+abbrev pub room_call : (size place : ℕ) → List Instruction
+room_call size place = copy 1 FRAME ∷ change Add 1 NEAR ∷ set 2 (pos place) ∷ set 3 (pos size) ∷ copy 4 PART
+    ∷ Call (pos 14) ∷ set TRUTH (pos 0) ∷ []
+
+abbrev pub load_list : Layout → List Instruction
+load_list layout = Load (size_of layout) Zero ANSWER FRAME NEAR ∷ ordered layout ∷ set TRUTH (pos 1) ∷ []
+
+-- the number that bytes of a part are
+unfoldable pub layout_code : Layout → Part → ℕ → Code
+layout_code layout p place = Then (Plain (part_code p ++ room_call (layout_size layout) place))
+    (Unless NotEqual ANSWER (Immediate (pos 0)) (Plain (load_list layout)))
+
+unfoldable pub term_code : Term → Code
+term_code (term.Length p) = count_code p
+term_code (term.Number layout p place) = layout_code layout p place
+term_code (term.Decimal p place count) = decimal_code p place count
+term_code term.Offset = answer_code (pos 7)
+term_code term.Timestamp = answer_code (pos 8)
+term_code term.Partition = answer_code (pos 9)
+term_code term.Headers = answer_code (pos 10)

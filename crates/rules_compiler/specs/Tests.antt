@@ -1,0 +1,92 @@
+-- The code of tests: r8 gets whether one holds.
+use Rattle.std.specs.Prelude.{ℕ, zero, suc, ◌+◌, ◌-◌, ℤ, pos, List, [], ◌∷◌, ◌++◌, length}
+use Rattle.machine_spec.specs.declared.instruction.Instruction.{Instruction}
+use Rattle.machine_spec.specs.declared.instruction.Instruction.TheVariants.{Call}
+use Rattle.machine_spec.specs.declared.operation.Operation.TheVariants.{Add}
+use Rattle.machine_spec.specs.declared.instruction.Source.TheVariants.{Register, Immediate}
+use Rattle.machine_spec.specs.declared.operation.{Test.Test as Jumps}
+use Rattle.machine_spec.specs.declared.operation.Test.TheVariants as jumps
+use Rattle.rules.specs.declared.{rule.Part.Part, rule.Term.Term, rule.Comparison.Comparison, rule.Test.Test}
+use Rattle.rules.specs.declared.rule.Comparison.TheVariants as comparison
+use Rattle.rules.specs.declared.rule.Test.TheVariants as test
+use Rattle.rules_compiler.specs.declared.searches.TheConstants.{LOOKED_AT, OTHERS, PLACES}
+use Rattle.rules_compiler.specs.declared.pieces.TheConstants.{ANSWER, PART, TRUTH, FRAME, NEAR}
+use Rattle.rules_compiler.specs.Code.{Code, Plain, Then, Unless}
+use Rattle.rules_compiler.specs.Pieces.{set, copy, change, number_code, text_code, part_code, measure}
+use Rattle.rules_compiler.specs.Terms.{term_code}
+
+-- what the helper says of a part's length is a number
+unfoldable pub length_test_code : Part → ℤ → Code
+length_test_code p number = Then (Plain (part_code p ++ measure))
+    (Unless jumps.NotEqual ANSWER (Immediate number) (Plain (set TRUTH (pos 1) ∷ [])))
+
+-- r1 to r4 name the part, its begin and a text in the stack
+abbrev pub name_text : ℕ → List Instruction
+name_text size = copy 1 PART ∷ set 2 (pos 0) ∷ copy 3 FRAME ∷ change Add 3 NEAR ∷ set 4 (pos size) ∷ []
+
+-- r8 gets whether the part begins with the text, and r0 what the helper says of the part's length
+abbrev pub stands : ℕ → List Instruction
+stands size = name_text size ++ (Call (pos 16) ∷ copy TRUTH ANSWER ∷ copy 1 PART ∷ Call (pos 13) ∷ [])
+
+-- the part begins with a text, and what the helper says of its length passes a test
+unfoldable pub text_test_code : Part → List ℕ → Jumps → ℕ → Code
+text_test_code p text how number = Then (Plain (part_code p ++ (text_code NEAR text ++ stands (length text))))
+    (Unless how ANSWER (Immediate (pos number)) (Plain (set TRUTH (pos 0) ∷ [])))
+
+-- ---- has
+
+-- r0 gets the first place of the text among PLACES from a place on, plus 1, else 0
+abbrev pub look : (size place : ℕ) → List Instruction
+look size place = copy 1 PART ∷ set 2 (pos place) ∷ copy 3 FRAME ∷ change Add 3 NEAR ∷ set 4 (pos size)
+    ∷ Call (pos 15) ∷ []
+
+-- r0 gets the part's length plus 2
+abbrev pub sized : List Instruction
+sized = copy 1 PART ∷ Call (pos 13) ∷ []
+
+-- r8 gets 1 where something was found
+abbrev pub mark : Code
+mark = Plain (set TRUTH (pos 1) ∷ [])
+
+-- the last search, which finds the text only where it ends within the bytes that are looked at
+abbrev pub last_mark : ℕ → Code
+last_mark size = Unless jumps.Equal ANSWER (Immediate (pos 0))
+    (Unless jumps.Greater ANSWER (Immediate (pos (LOOKED_AT - size + 1))) mark)
+
+-- a search from a place on, where the part reaches further than the text; so many others follow, where it finds nothing
+unfoldable pub searches_code : (size place left : ℕ) → Code
+searches_code size place zero = Then (Plain sized) (Unless jumps.Less ANSWER (Immediate (pos (place + size + 2)))
+    (Then (Plain (look size place)) (last_mark size)))
+searches_code size place (suc left) = Then (Plain sized) (Unless jumps.Less ANSWER (Immediate (pos (place + size + 2)))
+    (Then (Plain (look size place)) (Then (Unless jumps.Equal ANSWER (Immediate (pos 0)) mark)
+    (Unless jumps.NotEqual TRUTH (Immediate (pos 0)) (searches_code size (place + PLACES) left)))))
+
+unfoldable pub has_code : Part → List ℕ → Code
+has_code p text = Then (Plain (part_code p ++ (text_code NEAR text ++ set TRUTH (pos 0) ∷ [])))
+    (searches_code (length text) 0 OTHERS)
+
+-- the test of a jump that is taken where a comparison holds
+abbrev pub test_of : Comparison → Jumps
+test_of comparison.Equal = jumps.Equal
+test_of comparison.NotEqual = jumps.NotEqual
+test_of comparison.Less = jumps.Less
+test_of comparison.LessOrEqual = jumps.LessOrEqual
+test_of comparison.Greater = jumps.Greater
+test_of comparison.GreaterOrEqual = jumps.GreaterOrEqual
+
+-- r8 is cleared where r0 compares otherwise with a number
+unfoldable pub comparing_code : Comparison → ℕ → Code
+comparing_code how number = Then (Plain (number_code 1 number))
+    (Unless (test_of how) ANSWER (Register 1) (Plain (set TRUTH (pos 0) ∷ [])))
+
+unfoldable pub compare_code : Term → Comparison → ℕ → Code
+compare_code t how number = Then (term_code t)
+    (Unless jumps.Equal TRUTH (Immediate (pos 0)) (comparing_code how number))
+
+unfoldable pub test_code : Test → Code
+test_code (test.Null p) = length_test_code p (pos 1)
+test_code (test.Absent p) = length_test_code p (pos 0)
+test_code (test.Equal p text) = text_test_code p text jumps.Equal (length text + 2)
+test_code (test.Begins p text) = text_test_code p text jumps.GreaterOrEqual 2
+test_code (test.Has p text) = has_code p text
+test_code (test.Compare t how number) = compare_code t how number

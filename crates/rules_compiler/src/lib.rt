@@ -1,0 +1,24 @@
+//! A compiler from rules to programs: `compile` gives the image of rules, and `compile_text` the program file of a
+//! text of them.
+//!
+//! A program tries the rules in order. Each piece of it begins at its first instruction and goes on behind its last
+//! one, so that pieces follow one another. r6 has the number of a part, r8 whether a condition holds, and r0 what was
+//! answered or the value of a term.
+#![tactic(auto)]
+
+mod actions;
+mod blocks;
+mod conditions;
+mod coverage;
+mod fault;
+mod pieces;
+mod program;
+mod searches;
+mod terms;
+mod tests;
+mod text;
+mod text_bytes;
+
+pub use fault::CompileFault;
+pub use program::compile;
+pub use text::{TextFault, compile_text};

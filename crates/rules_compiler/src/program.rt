@@ -1,0 +1,118 @@
+//! From rules to an image.
+
+ghost use Rattle.std.specs.Prelude.{◌≡◌, ◌+◌, ◌≤◌, ◌++◌, true, length, IfOk, OnOk, All};
+ghost use Rattle.std.specs.List.{flat_map, list_all, AllByRecursion};
+ghost use Rattle.bpf_isa.specs.Spelling.{spelling, HasRegisters};
+ghost use Rattle.rules.specs.Limits.{FitsText, FitsLine, AreRules};
+ghost use Rattle.rules.specs.Lines.{line_of, lines_of};
+ghost use Rattle.rules_compiler.specs.Code.{instructions};
+ghost use Rattle.rules_compiler.specs.Coverage.{line_has_code};
+ghost use Rattle.rules_compiler.specs.Programs.{IsProgramOf};
+ghost use Rattle.rules_compiler.specs.Rules as definitions;
+
+use crate::actions::put_action;
+use crate::blocks::put_unless;
+use crate::conditions::put_condition;
+use crate::coverage::rule_has_code;
+use crate::fault::{CompileFault, Refusal, at_rule};
+use crate::pieces::{ANSWER, LENGTH, VALUE, copy, set};
+use crate::text_bytes::rules_have_texts;
+use bytes::Bytes;
+use machine_spec::{Instruction, MAX_SLOTS, Test};
+use rules::Rule;
+use std::alloc::Global;
+
+/// A rule: the action is left out where the condition does not hold.
+#[tactic(auto, unfolding(crate::specs::Rules::line_code))]
+fn put_rule(alloc: Global, code: &mut Vec<Instruction>, rule: &Rule) -> Result<(), Refusal>
+    requires { FitsLine FitsText (line_of rule.now) }
+    ensures { OnOk result (code.new.items ≡ code.old.items ++ instructions (definitions.line_code (line_of rule.now))) }
+{
+    match &rule.condition {
+        Some(condition) => {
+            put_condition(alloc, code, condition)?;
+            let mut block = Vec::new(alloc);
+            put_action(&mut block, &rule.action)?;
+            put_unless(code, Test::Equal, &block)
+        }
+        None => {
+            put_action(code, &rule.action)?;
+            Ok(())
+        }
+    }
+}
+
+/// Adds the code of the rule with this number.
+fn add_rule(
+    alloc: Global,
+    code: &mut Vec<Instruction>,
+    rule: &Rule,
+    number: usize,
+) -> Result<(), CompileFault>
+    requires fits { FitsLine FitsText (line_of rule.now) }
+    requires few { length code.old.items + 2 ≤ MAX_SLOTS }
+    ensures code { OnOk result (code.new.items ≡ code.old.items ++ instructions (definitions.line_code (line_of rule.now))) }
+    ensures has { OnOk result (line_has_code (line_of rule.now) ≡ true) }
+    ensures few { OnOk result (length code.new.items + 2 ≤ MAX_SLOTS) }
+{
+    if !rule_has_code(rule) {
+        return Err(CompileFault::Header(number));
+    }
+    match put_rule(alloc, code, rule) {
+        Ok(()) if code.len() <= MAX_SLOTS - 2 => Ok(()),
+        Ok(()) => Err(CompileFault::Slots(number)),
+        Err(refusal) => Err(at_rule(number, refusal)),
+    }
+}
+
+/// Adds the code of each rule.
+fn add_rules(alloc: Global, code: &mut Vec<Instruction>, rules: &[Rule]) -> Result<(), CompileFault>
+    requires fits { AllByRecursion (FitsLine FitsText) (lines_of rules.now) }
+    requires few { length code.old.items + 2 ≤ MAX_SLOTS }
+    ensures code { OnOk result (code.new.items ≡ code.old.items ++ instructions (definitions.lines_code (lines_of rules.now))) }
+    ensures has { OnOk result (list_all line_has_code (lines_of rules.now) ≡ true) }
+    ensures few { OnOk result (length code.new.items + 2 ≤ MAX_SLOTS) }
+{
+    for k in 0..rules.len() {
+        add_rule(alloc, code, &rules[k], k + 1)?;
+    }
+    Ok(())
+}
+
+/// The code of rules.
+#[tactic(auto, unfolding(crate::specs::Rules::code_of, crate::specs::Rules::body_of))]
+fn code_of(alloc: Global, rules: &[Rule]) -> Result<Vec<Instruction>, CompileFault>
+    requires { AllByRecursion (FitsLine FitsText) (lines_of rules.now) }
+    ensures code { IfOk result (λ code. code.items ≡ instructions (definitions.code_of (lines_of rules.now))) }
+    ensures has { IfOk result (λ code. list_all line_has_code (lines_of rules.now) ≡ true) }
+    ensures few { IfOk result (λ code. length code.items ≤ MAX_SLOTS) }
+{
+    let mut code = Vec::new(alloc);
+    code.extend_from_slice(&[copy(LENGTH, 2), copy(VALUE, 1)])?;
+    add_rules(alloc, &mut code, rules)?;
+    code.extend_from_slice(&[set(ANSWER, 0), Instruction::Exit])?;
+    Ok(code)
+}
+
+/// The image of code.
+fn image_of(alloc: Global, code: &[Instruction]) -> Result<Bytes, CompileFault>
+    requires { All HasRegisters code.now }
+    ensures { IfOk result (λ image. image ≡ flat_map spelling code.now) }
+{
+    let mut image = Vec::new(alloc);
+    for instruction in code {
+        bpf_isa::put(&mut image, *instruction)?;
+    }
+    Ok(Bytes::from_vec(image)?)
+}
+
+/// The image of rules, which runs by helper table 3.
+pub fn compile(alloc: Global, rules: &[Rule]) -> Result<Bytes, CompileFault>
+    requires { AreRules FitsText (lines_of rules.now) }
+    ensures { IfOk result (λ image. IsProgramOf (lines_of rules.now) image) }
+{
+    rules_have_texts(rules);
+    let code = code_of(alloc, rules)?;
+    let image = image_of(alloc, &code)?;
+    Ok(image)
+}

@@ -1,0 +1,137 @@
+//! Tests: r8 gets whether one holds.
+
+ghost use Rattle.std.specs.Prelude.{◌≡◌, ◌≤◌, ◌++◌, length, OnOk};
+ghost use Rattle.rules.specs.Limits.{FitsText, FitsPart, FitsTerm, FitsTest};
+ghost use Rattle.rules_compiler.specs.Code.{instructions};
+ghost use Rattle.rules_compiler.specs.Tests as definitions;
+
+use crate::blocks::put_unless;
+use crate::fault::Refusal;
+use crate::pieces::{
+    ANSWER, FRAME, NEAR, PART, TRUTH, change, copy, put_measured, put_number, put_part, put_text,
+    set, skip_if,
+};
+use crate::searches::put_has;
+use crate::terms::put_term;
+use machine_spec::{Instruction, Operation, Source, Width};
+use rules::{Comparison, Part, Term, Test, Text};
+use std::alloc::{AllocError, Global};
+
+/// Whether what the helper says of a part's length is a number.
+#[tactic(auto, unfolding(crate::specs::Tests::length_test_code))]
+fn put_length_test(code: &mut Vec<Instruction>, part: &Part, number: i32) -> Result<(), AllocError>
+    requires { FitsPart FitsText part.now }
+    ensures { OnOk result (code.new.items ≡ code.old.items ++ instructions (definitions.length_test_code part.now number)) }
+{
+    put_measured(code, part)?;
+    code.extend_from_slice(&[
+        skip_if(machine_spec::Test::NotEqual, ANSWER, number, 1),
+        set(TRUTH, 1),
+    ])
+}
+
+/// Whether a text stands at the part's begin, and what the helper says of the part's length.
+fn stands(length: usize) -> [Instruction; 9]
+    requires { length ≤ 255 }
+    ensures { result ≡ definitions.stands length }
+{
+    [
+        copy(1, PART),
+        set(2, 0),
+        copy(3, FRAME),
+        change(Operation::Add, 3, i32::from(NEAR)),
+        set(4, length as i32),
+        Instruction::Call(16),
+        copy(TRUTH, ANSWER),
+        copy(1, PART),
+        Instruction::Call(13),
+    ]
+}
+
+/// Whether a part begins with a text, and what the helper says of its length passes a test.
+#[tactic(auto, unfolding(crate::specs::Tests::text_test_code))]
+fn put_text_test(
+    code: &mut Vec<Instruction>,
+    part: &Part,
+    text: &Text,
+    how: machine_spec::Test,
+    number: usize,
+) -> Result<(), AllocError>
+    requires part { FitsPart FitsText part.now }
+    requires text { FitsText text.now }
+    requires number { number ≤ 257 }
+    ensures { OnOk result (code.new.items ≡ code.old.items ++ instructions (definitions.text_test_code part.now text.now how number)) }
+{
+    put_part(code, part)?;
+    put_text(code, &text.bytes)?;
+    code.extend_from_slice(&stands(text.bytes.len()))?;
+    code.extend_from_slice(&[skip_if(how, ANSWER, number as i32, 1), set(TRUTH, 0)])
+}
+
+/// The test of a jump that is taken where a comparison holds.
+fn test_of(how: Comparison) -> machine_spec::Test
+    ensures { result ≡ definitions.test_of how }
+{
+    match how {
+        Comparison::Equal => machine_spec::Test::Equal,
+        Comparison::NotEqual => machine_spec::Test::NotEqual,
+        Comparison::Less => machine_spec::Test::Less,
+        Comparison::LessOrEqual => machine_spec::Test::LessOrEqual,
+        Comparison::Greater => machine_spec::Test::Greater,
+        Comparison::GreaterOrEqual => machine_spec::Test::GreaterOrEqual,
+    }
+}
+
+#[tactic(auto, unfolding(crate::specs::Tests::comparing_code))]
+fn put_comparing(
+    code: &mut Vec<Instruction>,
+    how: Comparison,
+    number: u64,
+) -> Result<(), AllocError>
+    ensures { OnOk result (code.new.items ≡ code.old.items ++ instructions (definitions.comparing_code how number)) }
+{
+    put_number(code, 1, number)?;
+    code.extend_from_slice(&[
+        Instruction::JumpIf(Width::Bits64, test_of(how), ANSWER, Source::Register(1), 1),
+        set(TRUTH, 0),
+    ])
+}
+
+#[tactic(auto, unfolding(crate::specs::Tests::compare_code))]
+fn put_compare(
+    alloc: Global,
+    code: &mut Vec<Instruction>,
+    term: &Term,
+    how: Comparison,
+    number: u64,
+) -> Result<(), Refusal>
+    requires { FitsTerm FitsText term.now }
+    ensures { OnOk result (code.new.items ≡ code.old.items ++ instructions (definitions.compare_code term.now how number)) }
+{
+    put_term(code, term)?;
+    let mut block = Vec::new(alloc);
+    put_comparing(&mut block, how, number)?;
+    put_unless(code, machine_spec::Test::Equal, &block)
+}
+
+/// A test.
+#[tactic(auto, unfolding(crate::specs::Tests::test_code))]
+pub fn put_test(alloc: Global, code: &mut Vec<Instruction>, test: &Test) -> Result<(), Refusal>
+    requires { FitsTest FitsText test.now }
+    ensures { OnOk result (code.new.items ≡ code.old.items ++ instructions (definitions.test_code test.now)) }
+{
+    match test {
+        Test::Null(part) => put_length_test(code, part, 1)?,
+        Test::Absent(part) => put_length_test(code, part, 0)?,
+        Test::Equal(part, text) => {
+            let number = text.bytes.len() + 2;
+            put_text_test(code, part, text, machine_spec::Test::Equal, number)?
+        }
+        Test::Begins(part, text) => {
+            put_text_test(code, part, text, machine_spec::Test::GreaterOrEqual, 2)?
+        }
+        Test::Has(part, text) => put_has(alloc, code, part, text)?,
+        Test::Compare(term, how, number) => put_compare(alloc, code, term, *how, *number)?,
+    }
+    Ok(())
+}
