@@ -13,6 +13,8 @@ use std::alloc::AllocError;
 pub enum ImageCall<'a> {
     /// Writes the image of a text. Fields: the text, the image.
     Assemble(&'a str, &'a str),
+    /// Writes the program file of a text of rules. Fields: the text, the program file.
+    Compile(&'a str, &'a str),
     /// Verifies a program. Fields: its image or program file, the helper table that is named, if one is.
     Check(&'a str, Option<Table>),
     /// Prints the text of the image of a program.

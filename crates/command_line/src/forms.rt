@@ -11,7 +11,7 @@ struct Form {
 }
 
 /// All commands but `transform`.
-static FORMS: [Form; 10] = [
+static FORMS: [Form; 11] = [
     Form {
         name: "asm",
         least: 2,
@@ -51,6 +51,11 @@ static FORMS: [Form; 10] = [
         name: "records",
         least: 1,
         most: 1,
+    },
+    Form {
+        name: "rule",
+        least: 2,
+        most: 2,
     },
     Form {
         name: "run",

@@ -31,6 +31,10 @@ fn assemble<'a>(words: Operands<'a>) -> Option<ImageCall<'a>> {
     Some(ImageCall::Assemble(words.first, words.second?))
 }
 
+fn compile<'a>(words: Operands<'a>) -> Option<ImageCall<'a>> {
+    Some(ImageCall::Compile(words.first, words.second?))
+}
+
 fn check<'a>(words: Operands<'a>) -> Option<ImageCall<'a>> {
     Some(ImageCall::Check(words.first, table_of(words.second)?))
 }
@@ -47,6 +51,7 @@ fn image_call<'a>(name: &str, words: Operands<'a>) -> Option<ImageCall<'a>> {
         "check" => check(words),
         "dis" => Some(ImageCall::Disassemble(words.first)),
         "explain" => explain(words),
+        "rule" => compile(words),
         _ => None,
     }
 }

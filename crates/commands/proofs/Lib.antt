@@ -3,6 +3,7 @@ pub mod Assembled
 pub mod BatchLaws
 pub mod CallLaws
 pub mod Checked
+pub mod CompiledLaws
 pub mod FileLaws
 pub mod GivenLaws
 pub mod Kept

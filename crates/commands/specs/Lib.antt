@@ -1,4 +1,5 @@
 pub mod Appends
+pub mod Compiled
 pub mod Explanations
 pub mod FileTransforms
 pub mod Files

@@ -23,6 +23,7 @@ calls =
     ∷ codes "klog dis IMAGE"
     ∷ codes "klog recheck LIST"
     ∷ codes "klog records FILE"
+    ∷ codes "klog rule TEXT PROGRAM"
     ∷ codes "klog run SCRIPT"
     ∷ codes "klog transform [table2] IMAGE IN OUT .."
     ∷ codes "klog version"

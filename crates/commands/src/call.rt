@@ -24,6 +24,7 @@ use crate::image::{Refused, check};
 use crate::listing::list;
 use crate::reading::{Unread, read_file, read_whole};
 use crate::rechecking::recheck;
+use crate::rule_files::compile_file;
 use crate::run::run_script;
 use crate::status::Status;
 use crate::telling::{print_text, tell, tell_memory, tell_refused, tell_text, tell_unread};
@@ -324,6 +325,9 @@ fn image_command<F: Files, I, O: Write, E: Write>(
             assemble_file(host.alloc, &mut host.files, &mut host.stderr, text, image)
         }
         ImageCall::Check(program, named) => check_file(host, program, named),
+        ImageCall::Compile(text, program) => {
+            compile_file(host.alloc, &mut host.files, &mut host.stderr, text, program)
+        }
         ImageCall::Disassemble(program) => disassemble_file(host, program),
         ImageCall::Explain(program, named, extent) => explain_file(host, program, named, extent),
     }

@@ -1,9 +1,9 @@
 //! What a call of the program does: `command` does what its words ask for, with what the `Host` gives
 //! it: files, standard input, output and error. `run` does the commands of a script, `check` verifies
 //! a program, `explain` prints what the verifier knows of one, `asm` makes the image of a program's
-//! text, `dis` prints that text, `recheck` verifies the programs of a list anew, `transform` runs a
-//! program on record batches, `batches` and `records` list those of a file, and `commands` lists the
-//! calls. A `Session` does a script line by line.
+//! text, `rule` the program file of rules, `dis` prints an image's text, `recheck` verifies the programs
+//! of a list anew, `transform` runs a program on record batches, `batches` and `records` list those of a
+//! file, and `commands` lists the calls. A `Session` does a script line by line.
 #![tactic(auto)]
 
 mod appending;
@@ -26,6 +26,7 @@ mod printing;
 mod progress;
 mod reading;
 mod rechecking;
+mod rule_files;
 mod run;
 mod session;
 mod status;

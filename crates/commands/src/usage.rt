@@ -18,7 +18,8 @@ const USAGE: &str = "usage: klog COMMAND FILE ...\n";
 /// All calls.
 const CALLS: &str = "klog asm TEXT IMAGE\nklog batches FILE\nklog check IMAGE [1 or 2]\n\
     klog commands\nklog explain IMAGE [1 or 2] [refused]\nklog dis IMAGE\nklog recheck LIST\n\
-    klog records FILE\nklog run SCRIPT\nklog transform [table2] IMAGE IN OUT ..\nklog version\n";
+    klog records FILE\nklog rule TEXT PROGRAM\nklog run SCRIPT\n\
+    klog transform [table2] IMAGE IN OUT ..\nklog version\n";
 
 /// The version, as the head of CHANGELOG.md has it.
 const VERSION: &str = "klog 1.1.0\n";

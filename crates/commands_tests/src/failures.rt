@@ -35,7 +35,8 @@ static TEXTS: [(&[&str], &str); 8] = [
         &["commands"],
         "klog asm TEXT IMAGE\nklog batches FILE\nklog check IMAGE [1 or 2]\nklog commands\n\
         klog explain IMAGE [1 or 2] [refused]\nklog dis IMAGE\nklog recheck LIST\n\
-        klog records FILE\nklog run SCRIPT\nklog transform [table2] IMAGE IN OUT ..\nklog version\n",
+        klog records FILE\nklog rule TEXT PROGRAM\nklog run SCRIPT\n\
+        klog transform [table2] IMAGE IN OUT ..\nklog version\n",
     ),
     (&["version"], "klog 1.1.0\n"),
     (&["dis", "image"], "mov64 r1, 0\ncall 3\nexit\n"),
