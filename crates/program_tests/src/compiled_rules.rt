@@ -6,8 +6,7 @@ use annotate::load;
 use exec::{Outcome, Record};
 use machine_spec::{Emission, Table};
 use notes::Verified;
-use rules::parse;
-use rules_compiler::{compile, compile_text};
+use rules_compiler::compile_text;
 use std::alloc::Global;
 use std::test::*;
 
@@ -222,9 +221,8 @@ fn repeated(alloc: Global, line: &str, count: u32) -> Option<Vec<u8>> {
 /// Whether so many lines are compiled to so many slots, or refused with a fault.
 fn is_compiled(alloc: Global, row: &str) -> Option<bool> {
     let (count, line, want) = three(row)?;
-    let rules = parse(alloc, &repeated(alloc, line, count.parse().ok()?)?).ok()?;
-    let said = match compile(alloc, &rules) {
-        Ok(image) => format!(in alloc; "{}", image.len() / 8).ok()?,
+    let said = match compile_text(alloc, &repeated(alloc, line, count.parse().ok()?)?) {
+        Ok(file) => format!(in alloc; "{}", file.image.len() / 8).ok()?,
         Err(fault) => format!(in alloc; "{fault}").ok()?,
     };
     Some(said.as_str() == want)
@@ -237,12 +235,12 @@ static SLOTS: &str = "\
 1024 | drop | 2052
 # 19 slots a rule, and 4 around all of them
 862 | drop when byte(key, 0) = 1 | 16382
-863 | drop when byte(key, 0) = 1 | E9 Slots rule 863
+863 | drop when byte(key, 0) = 1 | rule 863: E9 Slots
 # 198 slots a rule
 82 | drop when value has \"a\" | 16240
-83 | drop when value has \"a\" | E9 Slots rule 83
+83 | drop when value has \"a\" | rule 83: E9 Slots
 # what is not compiled
-1 | output 1 and header \"a\" = \"b\" | E10 Header rule 1
+1 | output 1 and header \"a\" = \"b\" | rule 1: E10 Header
 ";
 
 #[test]
