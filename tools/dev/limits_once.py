@@ -31,6 +31,9 @@ CHANCE = {
     ("rules/proofs/", 65536): "the bytes of a part that a rule looks at",
     ("rules/specs/", 65536): "the bytes of a part that a rule looks at",
     ("rules/src/truth.rt", 65536): "the bytes of a part that a rule looks at",
+    ("rules_compiler/", 4096): "the places that a search looks at",
+    ("rules_compiler/", 65536): "the bytes of a part that a rule looks at",
+    ("rules_compiler/", 1048576): "the places that a rule may name",
     ("varint/src/writing.rt", 16384): "2^14, the numbers of two groups of seven bits",
 }
 
