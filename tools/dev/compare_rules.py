@@ -1,7 +1,7 @@
 #!/usr/bin/env python3
 """Compares compiled rules with what docs/guide/rules.md says of them, on random rules and records. Not part of the build.
 
-    tools/dev/compare_rules.py RUNNER FILES SEED [RECORDS]
+    tools/dev/compare_rules.py RUNNER FILES SEED [RECORDS [0]]    # 0: without added headers, which are not compiled
 
 RUNNER reads lines on standard input and answers each by one: `R TEXT` compiles the rules of a text and loads the program
 (`ok SLOTS`, or `refused` and why), and `T OFFSET,TIMESTAMP,PARTITION,OUTPUTS KEY VALUE HEADER:VALUE ..` runs it on a record
