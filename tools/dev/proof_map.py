@@ -34,6 +34,7 @@ HEAD = re.compile(r"^(?:(?:abbrev|unfoldable|pub|data|record|module) )*([^\s:({]
 RUST_ITEM = re.compile(r"^\s*(?:pub(?:\(crate\))? )?(struct|enum|trait|const|static|fn) (\w+)")
 RUST_MODEL = re.compile(r"^impl(?:<.*?>)? Model for (\w+)")
 RUST_TYPES = ("struct", "enum", "trait")
+IMPORT = r"^\s*(?:unfoldable )?(?:pub )?use "
 
 
 @dataclass(frozen=True)
@@ -76,7 +77,7 @@ class Module:
     def __init__(self, path):
         self.path, self.is_rust = path, path.suffix == ".rt"
         text = path.read_text(encoding="utf-8")
-        uses = re.findall(r"^\s*ghost use (.*?);" if self.is_rust else r"^use (.*)$", text, re.M | re.S if self.is_rust else re.M)
+        uses = re.findall(r"^\s*ghost use (.*?);", text, re.M | re.S) if self.is_rust else re.findall(f"{IMPORT}(.*)$", text, re.M)
         self.names = {name: where for use in uses for name, where in imported(use)}
         self.rust = {}
         for head, names in re.findall(r"^use (?:crate::)?([\w:]+)::(?:(\w+)|\{)", text, re.M):
@@ -88,7 +89,7 @@ class Module:
     def definitions(self, text):
         """The definitions of a file of definitions, by name; the constructors of a type are the type."""
         for line, part in blocks(text):
-            code = tuple(it for it in part if not it.lstrip().startswith("--") and not it.startswith("use "))
+            code = tuple(it for it in part if not it.lstrip().startswith("--") and not re.match(IMPORT, it))
             if code and (name := HEAD.match(code[0])):
                 here = Definition(self.path, "", line, code)
                 yield name[1], here
@@ -167,6 +168,11 @@ class Reader:
             elif module.is_rust and first[:1].isupper() and (place := self.rust_type(module, first)):
                 yield place
 
+    def passed_on(self, module, name):
+        """Where a name stands that a file of definitions only passes on (`pub use`)."""
+        place = self.of_path(module.names[name]) if name in module.names and not module.is_rust else None
+        return place and (place[0], place[1] or name)
+
     def closure(self, path, name):
         """All definitions that a contract needs, itself among them."""
         waiting, seen = [(path, name)], set()
@@ -178,6 +184,8 @@ class Reader:
                 if definition and definition not in seen:
                     seen.add(definition)
                     waiting.extend(self.needs(module, definition))
+            if module and name not in module.found and (passed_on := self.passed_on(module, name)):
+                waiting.append(passed_on)
         return seen
 
 
