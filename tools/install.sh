@@ -36,6 +36,7 @@ copy() {
 	shift
 	(cd "$top" && git ls-files -z -- "$@" | tar -cf - --null -T -) | tar -xf - -C "$target"
 }
-copy "$root/share/klog" tools/klogc tools/bpf_object 'tools/dev/second_*.py' include/klog.h examples ':!tools/klogc/tests'
+copy "$root/share/klog" tools/klogc tools/bpf_object tools/dev/program_files.py 'tools/dev/second_*.py' include/klog.h \
+	include/klog_parts.h examples ':!tools/klogc/tests'
 copy "$root/share/doc/klog" README.md CHANGELOG.md SECURITY.md CONTRIBUTING.md docs
 echo "installed in $root: klog, klogc, libklog.a, $shared, klog_engine.h, klog.pc, klog.1, examples and pages"

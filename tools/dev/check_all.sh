@@ -74,6 +74,13 @@ refuse_library_memory() {
 		tools/dev/refuse_each.py "$folder/library_memory"
 }
 
+# Installs klog, and builds and runs transforms by what is installed.
+use_installed() {
+	rm -rf "$logs/installed"
+	PREFIX=$logs/installed DESTDIR='' tools/install.sh "$klog" "$folder" &&
+		(cd "$logs/installed/share/klog/examples/c" && PATH="$logs/installed/bin:$PATH" klogc table parts)
+}
+
 klog=$top/crates/klog/out/klog
 if [ $# -gt 0 ]; then
 	[ -x "$1" ] || { echo "check_all: $1 is no program" >&2 && exit 2; }
@@ -105,6 +112,7 @@ check files "" tools/dev/file_attacks.py "$klog" 50
 check examples "cc library" examples/library/run.sh "$folder"
 check calls "library" tools/dev/compare_library.py "$folder/libklog.so" 300 7 "$klog"
 check memory "cc library" refuse_library_memory
+check installed "clang library" use_installed
 check stack "cc library" tools/dev/library_stack.py "$folder"
 check fuzz "rt clang fuzzer" fuzz/run.sh 1
 check clients "kafka confluent sarama" "$python" tools/dev/kafka_clients.py "$klog"
