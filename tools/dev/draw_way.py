@@ -9,7 +9,7 @@ PROVED, GIVEN = "#1a3f8b", "#444444"
 HIGH, HALF = 44, 22
 # What a box says, its middle, its width, and whether it is proved.
 BOXES = {
-    "author": (["a user's C"], 62, 30, 96, False),
+    "author": (["a user's", "rules or C"], 62, 30, 96, False),
     "producers": (["producers"], 62, 128, 96, False),
     "verifier": (["verifier"], 236, 30, 96, True),
     "log": (["log of an", "input"], 236, 128, 96, True),
@@ -19,7 +19,7 @@ BOXES = {
 }
 # From which box an arrow leads to which, and what stands at it.
 ARROWS = [
-    ("author", "verifier", "klogc"),
+    ("author", "verifier", "compiled"),
     ("verifier", "log", "a mark deploys it"),
     ("producers", "log", "batches"),
     ("log", "program", "in order"),
@@ -56,7 +56,7 @@ def arrow(start, end, words):
 
 def drawn():
     yield '<svg xmlns="http://www.w3.org/2000/svg" viewBox="0 0 780 160" width="780" height="160" font-family="sans-serif">'
-    yield "<title>From a user's C and producers' batches to rows for consumers</title>"
+    yield "<title>From a user's rules or C and producers' batches to rows for consumers</title>"
     yield '<rect width="780" height="160" fill="white"/>'
     yield (f'<marker id="head" viewBox="0 0 8 8" refX="7" refY="4" markerWidth="8" markerHeight="8" orient="auto">'
            f'<path d="M0 0L8 4L0 8z" fill="{GIVEN}"/></marker>')
