@@ -1,4 +1,11 @@
 //! Record batches of Kafka's message format (magic 2, uncompressed): a batch and its bytes.
+//!
+//! ```
+//! let mut feed = batch::Feed::new(alloc);
+//! feed.feed(BATCH).ok()?;
+//! let first = feed.next().ok()??;
+//! assert!(first.records.list.len() == 1);
+//! ```
 #![tactic(auto)]
 
 mod feed;

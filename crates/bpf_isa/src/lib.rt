@@ -2,6 +2,13 @@
 //!
 //! An image's instructions are its code: `decode` reads it or reports why it refuses it, with the
 //! first slot that is the reason, and `encode` gives the one image that has a code.
+//!
+//! ```
+//! let image = [0xb7, 0, 0, 0, 7, 0, 0, 0, 0x95, 0, 0, 0, 0, 0, 0, 0];
+//! let code = bpf_isa::decode(alloc, &image).ok()?;
+//! let again = bpf_isa::encode(alloc, &code).ok()?;
+//! assert!(code.len() == 2 && again.as_slice() == image.as_slice());
+//! ```
 #![tactic(auto)]
 
 mod code;

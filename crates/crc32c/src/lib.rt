@@ -3,6 +3,10 @@
 //! The bytes are a polynomial over the field of two elements, and a `u32` is one of degree below
 //! 32, with the coefficient of x^31 in its lowest bit. A remainder goes from byte to byte, or from
 //! block to block: division is linear, so each byte of a block adds what a table has for its place.
+//!
+//! ```
+//! assert!(crc32c::sum(b"123456789") == 0xe306_9283);
+//! ```
 #![tactic(auto)]
 
 ghost use Rattle.std.specs.Prelude.{◌≡◌, ℕ, ◌+◌, ◌*◌, ◌<◌, ◌≤◌, List, length, bit_xor, slice_index};

@@ -2,6 +2,13 @@
 //! it, up to the first that is refused, or those alone that lead to it, and then which register or
 //! which bytes the refusal is about, and what usually leads to it. Of an image without code: what its
 //! bytes are.
+//!
+//! ```
+//! use explain::{Coverage, explain_image};
+//! let image = bpf_asm::assemble(alloc, "ld8 r0, [r1+0]\nexit\n").ok()?;
+//! let shown = explain_image(alloc, &image, machine_spec::Table::One, Coverage::All).ok()?;
+//! assert!(shown.refusal.is_some());
+//! ```
 #![tactic(auto)]
 
 mod accesses;

@@ -3,6 +3,14 @@
 //!
 //! `read` and `write` are each other's inverse. `given_program` takes what a user gives as a program, an
 //! image or a program file.
+//!
+//! ```
+//! use program_file::{Places, ProgramFile};
+//! let places = Places { list: Vec::new(alloc) };
+//! let file = ProgramFile { table: 3, image: bytes::Bytes::from_static(&[0x95, 0, 0, 0, 0, 0, 0, 0]), places };
+//! let bytes = program_file::write(alloc, &file).ok()?;
+//! assert!(program_file::is_program_file(&bytes));
+//! ```
 #![tactic(auto)]
 
 mod choice;

@@ -1,5 +1,10 @@
 //! The lines of a script: what each says, which of them are refused before anything is done, and
 //! the texts that commands print.
+//!
+//! ```
+//! let command = script::parse(alloc, "close 7").ok()??;
+//! assert!(matches!(command, script::Command::Close(7)));
+//! ```
 #![tactic(auto)]
 
 mod command;
