@@ -1,6 +1,6 @@
 //! Conditions in a line.
 
-ghost use Rattle.std.specs.Prelude.{codes};
+ghost use Rattle.std.specs.Prelude.{◌≡◌, codes, IfOk};
 ghost use Rattle.wire_spec.specs.Memory.{AnswersAs};
 ghost use Rattle.rules.specs.Lines.{formula_of, Both, Either};
 ghost use Rattle.rules.specs.declared.fault.LineFault.TheVariants as faults;
@@ -11,7 +11,27 @@ use crate::fault::LineFault;
 use crate::reading::tests::test_at;
 use crate::rule::Condition;
 use crate::scan::{after_sign, after_word, sign_expected, skipped};
-use std::alloc::Global;
+use std::alloc::{AllocError, Global};
+
+/// Two conditions with `or` between them.
+fn either(alloc: Global, first: Condition, second: Condition) -> Result<Condition, AllocError>
+    ensures { IfOk result (λ c. formula_of c ≡ Either (formula_of first) (formula_of second)) }
+{
+    match (Box::new(alloc, first), Box::new(alloc, second)) {
+        (Ok(first), Ok(second)) => Ok(Condition::Or(first, second)),
+        _ => Err(AllocError),
+    }
+}
+
+/// Two conditions with `and` between them.
+fn both(alloc: Global, first: Condition, second: Condition) -> Result<Condition, AllocError>
+    ensures { IfOk result (λ c. formula_of c ≡ Both (formula_of first) (formula_of second)) }
+{
+    match (Box::new(alloc, first), Box::new(alloc, second)) {
+        (Ok(first), Ok(second)) => Ok(Condition::And(first, second)),
+        _ => Err(AllocError),
+    }
+}
 
 /// Conditions with `or` between them, read in so many steps at most, and what follows them.
 #[cycle(conditions)]
@@ -39,9 +59,7 @@ fn any_after<'a>(
         return Ok((first, text));
     };
     let (second, rest) = any_at(alloc, steps, rest)?;
-    let first = Box::new(alloc, first)?;
-    let second = Box::new(alloc, second)?;
-    Ok((Condition::Or(first, second), rest))
+    Ok((either(alloc, first, second)?, rest))
 }
 
 /// Conditions with `and` between them.
@@ -70,9 +88,7 @@ fn all_after<'a>(
         return Ok((first, text));
     };
     let (second, rest) = all_at(alloc, steps, rest)?;
-    let first = Box::new(alloc, first)?;
-    let second = Box::new(alloc, second)?;
-    Ok((Condition::And(first, second), rest))
+    Ok((both(alloc, first, second)?, rest))
 }
 
 /// One condition: `not` and what it denies, one in parentheses, or a test.
