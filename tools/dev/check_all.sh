@@ -98,6 +98,7 @@ fi
 [ $# -eq 2 ] || check library "rt cc" make_library
 
 check documents "clang xxd" tools/dev/check_docs.py "$klog"
+check comments "rt" tools/dev/doc_examples.py
 check limits "" tools/dev/limits_once.py
 check rules "" tools/dev/rules_meaning_test.py
 check klogc "clang" python3 -B -m unittest discover -s tools/klogc/tests -t tools
