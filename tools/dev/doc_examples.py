@@ -9,6 +9,7 @@ where one does not compile, ends early by `?`, or does not hold. They are compil
 """
 import os
 import re
+import shutil
 import subprocess
 import sys
 import tempfile
@@ -61,10 +62,10 @@ def program_of(examples):
 
 
 def make_crate(top, examples, crates):
-    """A folder with the crates of the repository, and one that has the examples."""
+    """A folder with copies of the crates of the repository, and one that has the examples."""
     os.makedirs(f"{top}/crates/doc_examples/src")
     for crate in crates:
-        os.symlink(f"{TOP}/crates/{crate}", f"{top}/crates/{crate}")
+        shutil.copytree(f"{TOP}/crates/{crate}", f"{top}/crates/{crate}", ignore=shutil.ignore_patterns("out", "data", "must-fail"))
     program = program_of(examples)
     with open(f"{top}/crates/doc_examples/src/main.rt", "w", encoding="utf-8") as file:
         file.write(program)
