@@ -103,6 +103,22 @@ static ACTIONS: &str = "\
 6b - | output 1 with value[0..0] = \"\" | 1 6b .
 6b 61*1048576 | output 1 with value[0..0] = \"*\" | reject 5
 6b 76 | output 3 value[9..] | reject 1
+# headers that are added
+6b 76 | output 1 and header \"by\" = \"klog\" | 1 6b 76 6279:6b6c6f67
+6b 76 68:31 | output 1 and header \"h\" = \"\" | 1 6b 76 68:31 68:.
+6b 76 68:- | output 1 and header \"\" = \"\\xff\\x00\" | 1 6b 76 68:- .:ff00
+616263 76 68:31 | output hash(key) % 2 and header \"a\" = \"b\" | 1 616263 76 68:31 61:62
+6b 6162636465 68:6162 | output 1 header \"h\"[1..2] and header \"a\" = \"b\" | 1 6b 62 68:6162 61:62
+6b 6162636465 | output 1 value[1..] and header \"a\" = \"b\" | 1 6b 62636465 61:62
+6b 6162636465 | output 1 with value[1..3] = \"*\" and header \"ab\" = \"c\" | 1 6b 612a6465 6162:63
+6b 76 61:. 61:. 61:. 61:. 61:. 61:. 61:. 61:. 61:. 61:. 61:. 61:. 61:. 61:. 61:. | output 1 value[0..0] and header \"a\" = \"\" | 1 6b . 61:. 61:. 61:. 61:. 61:. 61:. 61:. 61:. 61:. 61:. 61:. 61:. 61:. 61:. 61:. 61:.
+6b 76 61:. 61:. 61:. 61:. 61:. 61:. 61:. 61:. 61:. 61:. 61:. 61:. 61:. 61:. 61:. 61:. | output 3 and header \"\\xff\" = \"b\" | reject 1
+6b 76 | output 3 and header \"\\xff\" = \"b\" | reject 2
+6b 76 | output 3 and header \"\\xc3\\xa4\" = \"b\" | reject 1
+6b 76 | output 1 value[2..] and header \"a\" = \"b\" | reject 4
+6b 61*1048576 | output 1 with value[0..0] = \"*\" and header \"a\" = \"b\" | reject 5
+6b 76 | tombstone 0 when offset = 6;output 1 and header \"a\" = \"b\" when offset = 5 | 1 6b 76 61:62
+6b 76 | output 1 and header \"a\" = \"b\" when offset = 6;output 2 | 2 6b 76
 # the first rule that holds
 6b 76 | output 0 when key = \"a\";output 1 when key = \"k\";output 2 | 1 6b 76
 6b 76 | output 0 when key = \"a\";output 1 when key = \"b\";output 2 | 2 6b 76
@@ -111,6 +127,24 @@ static ACTIONS: &str = "\
 #[test]
 fn actions(rt: HostRuntime) {
     all_hold(&rt, ACTIONS, |row| is_made(rt.alloc(), row));
+}
+
+/// Whether a header with a key and a value of 255 bytes each is added, in front of a change by as long a text.
+fn are_long_added(alloc: Global) -> Option<bool> {
+    let key = "k".repeat(alloc, 255).ok()?;
+    let value = "v".repeat(alloc, 255).ok()?;
+    let text = "*".repeat(alloc, 255).ok()?;
+    let action = format!(in alloc; "output 0 with value[0..1] = \"{text}\"").ok()?;
+    let rules = format!(in alloc; "{action} and header \"{key}\" = \"{value}\"").ok()?;
+    is_made(
+        alloc,
+        &format!(in alloc; "6b 76 | {rules} | 0 6b 2a*255 6b*255:76*255").ok()?,
+    )
+}
+
+#[test]
+fn long_headers(rt: HostRuntime) {
+    assert!(rt; are_long_added(rt.alloc()) == Some(true));
 }
 
 /// Whether a condition holds of a record, as a row says.
@@ -239,8 +273,8 @@ static SLOTS: &str = "\
 # 198 slots a rule
 82 | drop when value has \"a\" | 16240
 83 | drop when value has \"a\" | rule 83: E9 Slots
-# what is not compiled
-1 | output 1 and header \"a\" = \"b\" | rule 1: E10 Header
+# a word of each text, and 9 slots more
+1 | output 1 and header \"a\" = \"b\" | 18
 ";
 
 #[test]

@@ -1,13 +1,13 @@
 -- What becomes of a record by rules: one outcome, by the rule that takes it.
-use Rattle.std.specs.Prelude.{ℕ, ◌%◌, Bool, not, ◌&&◌, ◌==◌, nat_lt, nat_le, if◌then◌else◌, List, [], ◌∷◌, ◌++◌, length}
+use Rattle.std.specs.Prelude.{ℕ, ◌%◌, Bool, ◌&&◌, ◌==◌, nat_le, if◌then◌else◌, List, [], ◌∷◌, ◌++◌, length}
 use Rattle.std.specs.Prelude.{take, drop, slice_range, Option, Some, None, unwrap_or, Result, Ok, Err}
-use Rattle.std.specs.Str.{is_utf8}
-use Rattle.wire_spec.specs.declared.limits.TheConstants.{MAX_VALUE, MAX_HEADERS, MAX_HEADER_KEY, MAX_HEADER_VALUE}
+use Rattle.wire_spec.specs.declared.limits.TheConstants.{MAX_VALUE}
 use Rattle.wire_spec.specs.declared.{record.Header.Header, record.Record.Record}
 use Rattle.machine_spec.specs.declared.{outcome.Emission.Emission, outcome.Outcome.Outcome}
 use Rattle.machine_spec.specs.declared.outcome.Outcome.TheVariants.{Kept, Rejected}
 use Rattle.machine_spec.specs.{Machine.Input, Machine.bytes_of, Machine.emit_code, Machine.whole_record}
-use Rattle.machine_spec.specs.{Machine.no_yield, Machine.bare_record, Hashes.hash_of}
+use Rattle.machine_spec.specs.{Machine.no_yield, Machine.bare_record, Machine.with_headers, Machine.header_of}
+use Rattle.machine_spec.specs.{Machine.header_refusal, Hashes.hash_of}
 use Rattle.rules.specs.declared.{rule.Part.Part, rule.Cut.Cut, rule.Output.Output, rule.AddedHeader.AddedHeader}
 use Rattle.rules.specs.declared.rule.Action.{Action}
 use Rattle.rules.specs.declared.rule.Output.TheVariants as output
@@ -28,24 +28,6 @@ outcome_of_emission input emission = unless_refused (emit_code input no_yield em
 abbrev pub outcome_with_value : Input → Emission → Result (List ℕ) ℕ → Outcome
 outcome_with_value input emission (Ok value) = outcome_of_emission input (record emission { value = Some value })
 outcome_with_value input emission (Err code) = unless_refused (emit_code input no_yield emission) (Rejected code)
-
--- ---- added headers
-
--- an emission with headers after its own
-abbrev pub with_headers : List Header → Emission → Emission
-with_headers added emission = record emission { headers = emission.headers ++ added }
-
--- the header that a rule adds
-abbrev pub header_of : AddedHeader → Header
-header_of h = record { key = h.key; value = Some h.value }
-
--- why a header can't be added, the first that holds: 1, the record has sixteen; 2, its key is longer than 255 bytes or
--- no UTF-8; 3, its value is longer than 4,096 bytes; else 0
-abbrev pub header_code : Record → AddedHeader → ℕ
-header_code given h =
-    if nat_le MAX_HEADERS (length given.headers) then 1 else
-    if not (nat_le (length h.key) MAX_HEADER_KEY && is_utf8 h.key) then 2 else
-    if nat_lt MAX_HEADER_VALUE (length h.value) then 3 else 0
 
 -- ---- values
 
@@ -98,7 +80,8 @@ outcome_of_output (output.Changed n from to text) added input =
 -- the same with the header that a rule adds, if one is: its refusals come first
 abbrev pub outcome_of_added : Output → Option AddedHeader → Input → Outcome
 outcome_of_added what (Some h) input =
-    unless_refused (header_code input.given h) (outcome_of_output what (header_of h ∷ []) input)
+    unless_refused (header_refusal input.given no_yield h.key h.value)
+    (outcome_of_output what (header_of h.key h.value ∷ []) input)
 outcome_of_added what None input = outcome_of_output what [] input
 
 -- what an action makes of a record

@@ -3,7 +3,7 @@ use Rattle.std.proofs.Common.{◌≡◌, ℕ, ◌+◌, ◌*◌, ◌/◌, ◌%◌
 use Rattle.std.proofs.Common.{◌&&◌, ◌||◌, ◌==◌, nat_lt, nat_le, if◌then◌else◌, List, [], ◌∷◌, ◌++◌, length, Option, Some}
 use Rattle.std.proofs.Common.{None, refl, sym, ap, ◌∙◌, subst, arith, ⊎_elim}
 use Rattle.std.specs.Int.{w32, cast_signed}
-use Rattle.std.proofs.lemmas.Bool.{cond_both, ne_eqb, eq-eqb, and_parts, ltb-true}
+use Rattle.std.proofs.lemmas.Bool.{cond_both, ne_eqb, eq-eqb, ltb-true}
 use Rattle.std.proofs.lemmas.{Int.of_z-to_z}
 use Rattle.machine_spec.specs.declared.instruction.Instruction.{Instruction}
 use Rattle.machine_spec.specs.declared.instruction.Source.TheVariants.{Register, Immediate}
@@ -29,7 +29,7 @@ use Rattle.rules_compiler.specs.Tests.{stands, text_test_code, length_test_code,
 use Rattle.rules_compiler.specs.Rules.{condition_code}
 use Rattle.rules_compiler.specs.declared.pieces.TheConstants.{NEAR}
 use Rattle.rules_compiler.proofs.Ready.{Ready, small_immediate}
-use Rattle.rules_compiler.proofs.Texts.{runs_both, HoldsText, text_has, text_read, bytes_of_text}
+use Rattle.rules_compiler.proofs.Texts.{near_stands, runs_both, HoldsText, text_has, text_read, bytes_of_text}
 use Rattle.rules_compiler.proofs.Parts.{found, bytes_found, absent_is, null_is, part_run}
 use Rattle.machine_spec.specs.{Parts.part_numbered, Places.stand_at, Values.result_of}
 use Rattle.machine_spec.specs.declared.operation.Operation.TheVariants.{Add}
@@ -38,7 +38,6 @@ use Rattle.std.proofs.lemmas.{Slice.Eq.bytes_eq-Decides, List.take_all}
 use Rattle.std.proofs.Common.{nat_eq, unwrap_or}
 use Rattle.std.proofs.lemmas.Bool.{le-leb, cases_eq}
 use Rattle.rules_compiler.proofs.Walks.{On, run_list, run}
-use Rattle.rules_compiler.specs.Coverage.{term_has_code, test_has_code, formula_has_code}
 use Rattle.rules_compiler.proofs.SearchEffects.{has_decides}
 use Rattle.rules_compiler.proofs.Courses.{Decides, HasTerm, bit_of}
 use Rattle.rules_compiler.proofs.Courses.{bytes_of_found, enter_decides, list_decides}
@@ -114,7 +113,7 @@ module _ (input : Input) (t : State) (ready : Ready input t) (text : List ℕ) (
   unfolding state_after helper_among
   asked_truth =
       let frame = ready.frame_is in
-      let read = text_read input t.stack text (immediate Bits64 (pos (length text)))
+      let read = text_read 256 input t.stack text (immediate Bits64 (pos (length text)))
       (result_of Bits64 Add (t.registers 10) (Number (immediate Bits64 NEAR))) (Number (immediate Bits64 (pos (length text))))
       holds (rw frame refl) refl (small_immediate (length text) (omega arith)) in
       rw (is, read) refl
@@ -124,7 +123,7 @@ asks : (input : Input) → IsInput input → (s : State) → Ready input s → (
 asks input given s ready p text fits is =
     let r = part_run input given p fits s ready in
     let t = run_list input (part_code p) s in
-    let has = text_has input text (bytes_of_text text is) is.few t r.ready in
+    let has = text_has input near_stands text (bytes_of_text text is) is.few t r.ready in
     let u = run_list input (text_code NEAR text) t in
     let six = has.kept 6 ∙ r.is in
     let one = runs_both input (part_code p) (text_code NEAR text ++ stands (length text)) s in
@@ -314,25 +313,25 @@ module _ (input : Input) (how : Comparison) (n : ℕ) (small : n < 2 ^ 64) where
       (compared (goes_to t (t.slot + 1)) a (assumption ready) has.0 has.1)
 
 module _ (input : Input) (given : IsInput input) where
-  compare_decides : (t : Term) (how : Comparison) (n : ℕ) → term_has_code t ≡ true → FitsTerm IsText t → n < 2 ^ 64 → (s : State) →
+  compare_decides : (t : Term) (how : Comparison) (n : ℕ) → FitsTerm IsText t → n < 2 ^ 64 → (s : State) →
       Ready input s → Decides input (compare_code t how n) s (compares_if how (term_value t input.given input.place) n)
   unfolding compare_code
-  compare_decides t how n has fits small s ready =
-      let v = term_values input given s ready t has fits in
+  compare_decides t how n fits small s ready =
+      let v = term_values input given s ready t fits in
       let d = compares_term input how n small v.state (term_value t input.given input.place) v.ready v.has in
       then_decides input (term_code t) (Unless jumps.Equal 8 (Immediate (pos 0)) (comparing_code how n)) s v.state
       (compares_if how (term_value t input.given input.place) n) v.runs d
 
-  test_decides : (t : Tests) → test_has_code t ≡ true → FitsTest IsText t → (s : State) → Ready input s →
+  test_decides : (t : Tests) → FitsTest IsText t → (s : State) → Ready input s →
       Decides input (test_code t) s (test_holds t input.given input.place)
   unfolding test_code
-  test_decides (test.Null p) has fits s ready = null_decides input given s ready p fits
-  test_decides (test.Absent p) has fits s ready = absent_decides input given s ready p fits
-  test_decides (test.Equal p text) has fits s ready = equal_decides input given s ready p text fits.0 fits.1
-  test_decides (test.Begins p text) has fits s ready = begin_decides input given s ready p text fits.0 fits.1
-  test_decides (test.Has p text) has fits s ready = has_decides input given s ready p text fits.0 fits.1
-  test_decides (test.Compare t how n) has fits s ready =
-      compare_decides t how n has fits.0 (omega (arith, fits.1.high_is)) s ready
+  test_decides (test.Null p) fits s ready = null_decides input given s ready p fits
+  test_decides (test.Absent p) fits s ready = absent_decides input given s ready p fits
+  test_decides (test.Equal p text) fits s ready = equal_decides input given s ready p text fits.0 fits.1
+  test_decides (test.Begins p text) fits s ready = begin_decides input given s ready p text fits.0 fits.1
+  test_decides (test.Has p text) fits s ready = has_decides input given s ready p text fits.0 fits.1
+  test_decides (test.Compare t how n) fits s ready =
+      compare_decides t how n fits.0 (omega (arith, fits.1.high_is)) s ready
 
 -- ---- conditions
 
@@ -360,28 +359,26 @@ module _ (input : Input) (t : State) (ready : Ready input t) where
       enter_decides input jumps.NotEqual 8 (Immediate (pos 0)) other t c (rw truth refl) (go (goes_to t (t.slot + 1)) (assumption ready))
 
 module _ (input : Input) (given : IsInput input) where
-  pub condition_decides : (c : Formula) → formula_has_code c ≡ true → HasFitting IsText c → (s : State) →
+  pub condition_decides : (c : Formula) → HasFitting IsText c → (s : State) →
       Ready input s → Decides input (condition_code c) s (holds c input.given input.place)
   unfolding condition_code
-  condition_decides (Single t) has fits s ready = test_decides input given t has fits s ready
-  condition_decides (Negated inner) has fits s ready =
+  condition_decides (Single t) fits s ready = test_decides input given t fits s ready
+  condition_decides (Negated inner) fits s ready =
       let b = holds inner input.given input.place in
-      let d = condition_decides inner has fits s ready in
+      let d = condition_decides inner fits s ready in
       then_decides input (condition_code inner) (Plain (change Xor 8 (pos 1) ∷ [])) s d.state (not b) d.runs
       (turned input d.state d.ready b d.truth)
-  condition_decides (Both one other) has fits s ready =
-      let both = and_parts _ _ has in
+  condition_decides (Both one other) fits s ready =
       let b = holds one input.given input.place in
       let c = holds other input.given input.place in
-      let d = condition_decides one both.0 fits.0 s ready in
+      let d = condition_decides one fits.0 s ready in
       then_decides input (condition_code one) (Unless jumps.Equal 8 (Immediate (pos 0)) (condition_code other)) s d.state
       (b && c) d.runs (both_decides input d.state d.ready (condition_code other) b c d.truth
-      (λ u clear. condition_decides other both.1 fits.1 u clear))
-  condition_decides (Either one other) has fits s ready =
-      let both = and_parts _ _ has in
+      (λ u clear. condition_decides other fits.1 u clear))
+  condition_decides (Either one other) fits s ready =
       let b = holds one input.given input.place in
       let c = holds other input.given input.place in
-      let d = condition_decides one both.0 fits.0 s ready in
+      let d = condition_decides one fits.0 s ready in
       then_decides input (condition_code one) (Unless jumps.NotEqual 8 (Immediate (pos 0)) (condition_code other)) s d.state
       (b || c) d.runs (either_decides input d.state d.ready (condition_code other) b c d.truth
-      (λ u clear. condition_decides other both.1 fits.1 u clear))
+      (λ u clear. condition_decides other fits.1 u clear))

@@ -4,7 +4,6 @@ use Rattle.std.proofs.Common.{◌==◌, if◌then◌else◌, List, [], ◌∷◌
 use Rattle.std.proofs.Common.{None, refl, sym, ap, ◌∙◌, arith, ⊎_elim}
 use Rattle.std.specs.Prelude.{slice_range, Ok, Err, unwrap_or}
 use Rattle.std.proofs.lemmas.Bool.{ne_eqb, le-leb}
-use Rattle.std.proofs.lemmas.{List.append-nil}
 use Rattle.machine_spec.specs.declared.{outcome.Emission.Emission, outcome.Outcome.Outcome}
 use Rattle.machine_spec.specs.declared.outcome.Outcome.TheVariants.{Kept, Rejected}
 use Rattle.machine_spec.specs.declared.instruction.Source.TheVariants.{Immediate}
@@ -12,20 +11,21 @@ use Rattle.machine_spec.specs.declared.operation.Test.TheVariants as jumps
 use Rattle.machine_spec.specs.declared.operation.Width.TheVariants.{Bits64}
 use Rattle.machine_spec.specs.Values.{Number, immediate}
 use Rattle.machine_spec.specs.Machine.{Input, State, state_after, goes_to, emit_code, emitted_after, Yield, no_yield, with_emission}
-use Rattle.machine_spec.specs.Machine.{whole_record, bare_record, has_part, cut_record, code_unless, emitted_unless}
+use Rattle.wire_spec.specs.declared.record.Header.{Header}
+use Rattle.machine_spec.specs.Machine.{with_headers, whole_record, bare_record, has_part, cut_record, code_unless, emitted_unless}
 use Rattle.machine_spec.specs.Signatures.{helper_among}
 use Rattle.machine_spec.specs.{Meaning.outcome_of, Hashes.hash_of}
 use Rattle.verifier_spec.specs.StandsFor.{IsInput}
 use Rattle.rules.specs.declared.{rule.Part.Part}
 use Rattle.rules.specs.declared.rule.Output.TheVariants as output
-use Rattle.rules.specs.Outcomes.{unless_refused, outcome_of_emission, outcome_with_value, with_headers, has_range, range_of}
+use Rattle.rules.specs.Outcomes.{unless_refused, outcome_of_emission, outcome_with_value, has_range, range_of}
 use Rattle.rules.specs.Outcomes.{bytes_in, hashed_output, outcome_of_output}
 use Rattle.rules.specs.Limits.{IsText, FitsPart}
 use Rattle.rules_compiler.specs.Code.{Code, Plain, Ends, Then, Unless}
 use Rattle.rules_compiler.specs.Pieces.{set, copy, change, part_code}
 use Rattle.rules_compiler.specs.Actions.{drop_code, plain_code, hashed_code, part_cut_code, rest_cut_code}
 use Rattle.rules_compiler.proofs.Walks.{On, Over, run_list, run}
-use Rattle.rules_compiler.proofs.Ready.{Ready, small_immediate}
+use Rattle.rules_compiler.proofs.Ready.{ReadyWith, silent, small_immediate}
 use Rattle.rules_compiler.proofs.Texts.{runs_both}
 use Rattle.machine_spec.proofs.PartAnswers.{IsShort, part_short}
 use Rattle.machine_spec.specs.{Parts.length_answer}
@@ -46,42 +46,41 @@ rejected (suc n) emitted some = refl
 pub not_zero : (n : ℕ) → (suc n == 0) ≡ false
 not_zero n = ne_eqb (suc n) 0 (λ e. omega arith)
 
-pub plain_headers : (e : Emission) → with_headers [] e ≡ e
-plain_headers e = rw (append-nil e.headers) refl
+module _ (added : List Header) where
+  pub kept_unless : (code : ℕ) (e : Emission) →
+      outcome_of (Number code) (if code == 0 then with_emission (silent added) e else silent added).emissions
+      ≡ unless_refused code (Kept (with_headers added e ∷ []))
+  kept_unless zero e = refl
+  kept_unless (suc code) e = rw (not_zero code) refl
 
-pub kept_unless : (code : ℕ) (e : Emission) →
-    outcome_of (Number code) (if code == 0 then with_emission no_yield e else no_yield).emissions
-    ≡ unless_refused code (Kept (e ∷ []))
-kept_unless zero e = ap (λ (x : Emission). Kept (x ∷ [])) (plain_headers e)
-kept_unless (suc code) e = rw (not_zero code) refl
+  pub emission_outcome : (input : Input) (before : Yield) (e : Emission) → before ≡ silent added →
+      outcome_of (Number (emit_code input before e)) (emitted_after input before e).emissions
+      ≡ outcome_of_emission input (with_headers added e)
+  emission_outcome input before e none =
+      ap (λ (b : Yield). outcome_of (Number (emit_code input b e)) (emitted_after input b e).emissions) none
+      ∙ kept_unless (emit_code input (silent added) e) e
 
-pub emission_outcome : (input : Input) (before : Yield) (e : Emission) → before ≡ no_yield →
-    outcome_of (Number (emit_code input before e)) (emitted_after input before e).emissions ≡ outcome_of_emission input e
-emission_outcome input before e none =
-    ap (λ (b : Yield). outcome_of (Number (emit_code input b e)) (emitted_after input b e).emissions) none
-    ∙ kept_unless (emit_code input no_yield e) e
+  pub cut_unless : (code : ℕ) (e : Emission) (b : Bool) →
+      outcome_of (Number (if code == 0 then (if b then 0 else 4) else code))
+      (if (if b then 0 else 4) == 0 then (if code == 0 then with_emission (silent added) e else silent added) else silent added).emissions
+      ≡ (if b then unless_refused code (Kept (with_headers added e ∷ [])) else unless_refused code (Rejected 4))
+  cut_unless zero e true = refl
+  cut_unless zero e false = refl
+  cut_unless (suc code) e true = rw (not_zero code) refl
+  cut_unless (suc code) e false = rw (not_zero code) refl
 
-pub cut_unless : (code : ℕ) (e : Emission) (b : Bool) →
-    outcome_of (Number (if code == 0 then (if b then 0 else 4) else code))
-    (if (if b then 0 else 4) == 0 then (if code == 0 then with_emission no_yield e else no_yield) else no_yield).emissions
-    ≡ (if b then unless_refused code (Kept (e ∷ [])) else unless_refused code (Rejected 4))
-cut_unless zero e true = ap (λ (x : Emission). Kept (x ∷ [])) (plain_headers e)
-cut_unless zero e false = refl
-cut_unless (suc code) e true = rw (not_zero code) refl
-cut_unless (suc code) e false = rw (not_zero code) refl
-
-pub refused_unless : (code : ℕ) (e : Emission) (refusal : ℕ) →
-    outcome_of (Number (if code == 0 then refusal else code))
-    (if refusal == 0 then (if code == 0 then with_emission no_yield e else no_yield) else no_yield).emissions
-    ≡ (if refusal == 0 then unless_refused code (Kept (e ∷ [])) else unless_refused code (Rejected refusal))
-refused_unless zero e zero = ap (λ (x : Emission). Kept (x ∷ [])) (plain_headers e)
-refused_unless zero e (suc n) = rw (not_zero n) refl
-refused_unless (suc code) e zero = rw (not_zero code) refl
-refused_unless (suc code) e (suc n) = rw (not_zero code, not_zero n) refl
+  pub refused_unless : (code : ℕ) (e : Emission) (refusal : ℕ) →
+      outcome_of (Number (if code == 0 then refusal else code))
+      (if refusal == 0 then (if code == 0 then with_emission (silent added) e else silent added) else silent added).emissions
+      ≡ (if refusal == 0 then unless_refused code (Kept (with_headers added e ∷ [])) else unless_refused code (Rejected refusal))
+  refused_unless zero e zero = refl
+  refused_unless zero e (suc n) = rw (not_zero n) refl
+  refused_unless (suc code) e zero = rw (not_zero code) refl
+  refused_unless (suc code) e (suc n) = rw (not_zero code, not_zero n) refl
 
 -- ---- actions
 
-module _ (input : Input) (given : IsInput input) (s : State) (ready : Ready input s) where
+module _ (input : Input) (given : IsInput input) (added : List Header) (s : State) (ready : ReadyWith input added s) where
   pub drop_stops : (n : ℕ) → 1 ≤ n → n < 2 ^ 64 → run input (drop_code n) s ≡ Over (Rejected n)
   unfolding drop_code
   drop_stops n some small =
@@ -89,28 +88,29 @@ module _ (input : Input) (given : IsInput input) (s : State) (ready : Ready inpu
       ap Over (rw puts.number (rejected n _ some))
 
   pub record_stops : (out : ℕ) → out ≤ 63 →
-      run input (plain_code out (pos 3)) s ≡ Over (outcome_of_output (output.Record out) [] input)
+      run input (plain_code out (pos 3)) s ≡ Over (outcome_of_output (output.Record out) added input)
   unfolding plain_code state_after helper_among
   record_stops out few =
-      ap Over (emission_outcome input s.emitted (whole_record input (immediate Bits64 (pos out))) ready.none
-      ∙ ap (λ (n : ℕ). outcome_of_emission input (whole_record input n)) (small_immediate out (omega arith))
-      ∙ ap (outcome_of_emission input) (sym (plain_headers (whole_record input out))))
+      ap Over (emission_outcome added input s.emitted (whole_record input (immediate Bits64 (pos out))) ready.none
+      ∙ ap (λ (n : ℕ). outcome_of_emission input (with_headers added (whole_record input n))) (small_immediate out (omega arith)))
 
   pub null_stops : (out : ℕ) → out ≤ 63 →
-      run input (plain_code out (pos 6)) s ≡ Over (outcome_of_emission input (bare_record out input.given.key None))
+      run input (plain_code out (pos 6)) s
+      ≡ Over (outcome_of_emission input (with_headers added (bare_record out input.given.key None)))
   unfolding plain_code state_after helper_among
   null_stops out few =
-      ap Over (emission_outcome input s.emitted (bare_record (immediate Bits64 (pos out)) input.given.key None) ready.none
-      ∙ ap (λ (n : ℕ). outcome_of_emission input (bare_record n input.given.key None)) (small_immediate out (omega arith)))
+      ap Over (emission_outcome added input s.emitted (bare_record (immediate Bits64 (pos out)) input.given.key None) ready.none
+      ∙ ap (λ (n : ℕ). outcome_of_emission input (with_headers added (bare_record n input.given.key None)))
+      (small_immediate out (omega arith)))
 
   pub hashed_emission : (hash count : ℕ) → count ≤ 64 →
       outcome_of (Number (emit_code input s.emitted (whole_record input (hash % immediate Bits64 (pos count)))))
       (emitted_after input s.emitted (whole_record input (hash % immediate Bits64 (pos count)))).emissions
-      ≡ outcome_of_emission input (with_headers [] (whole_record input (hash % count)))
+      ≡ outcome_of_emission input (with_headers added (whole_record input (hash % count)))
   hashed_emission hash count few =
-      emission_outcome input s.emitted (whole_record input (hash % immediate Bits64 (pos count))) ready.none
-      ∙ ap (λ (n : ℕ). outcome_of_emission input (whole_record input (hash % n))) (small_immediate count (omega arith))
-      ∙ ap (outcome_of_emission input) (sym (plain_headers (whole_record input (hash % count))))
+      emission_outcome added input s.emitted (whole_record input (hash % immediate Bits64 (pos count))) ready.none
+      ∙ ap (λ (n : ℕ). outcome_of_emission input (with_headers added (whole_record input (hash % n))))
+      (small_immediate count (omega arith))
 
   abbrev pub hashed_list : ℕ → List Instruction
   hashed_list count = copy 1 6 ∷ Call (pos 18) ∷ change Mod 0 (pos count) ∷ copy 1 0 ∷ Call (pos 3) ∷ []
@@ -133,7 +133,7 @@ module _ (input : Input) (given : IsInput input) (s : State) (ready : Ready inpu
   hashed_end t number count same is = rw (is, same) refl
 
   pub hashed_stops : (p : Part) (count : ℕ) → FitsPart IsText p → count ≤ 64 →
-      run input (hashed_code p count) s ≡ Over (outcome_of_output (output.Hashed p count) [] input)
+      run input (hashed_code p count) s ≡ Over (outcome_of_output (output.Hashed p count) added input)
   unfolding hashed_code
   hashed_stops p count fits few =
       let r = part_run input given p fits s ready in
@@ -143,8 +143,8 @@ module _ (input : Input) (given : IsInput input) (s : State) (ready : Ready inpu
       ap (λ (u : State). Over (outcome_of (u.registers 0) u.emitted.emissions)) both
       ∙ ap Over (hashed_end t r.number count same r.is
       ∙ hashed_emission (hash_of (part_in input.given (part_numbered r.number))) count few
-      ∙ ap (λ (o : Option (Option (List ℕ))). outcome_of_emission input (with_headers [] (whole_record input (hash_of o % count)))) r.names
-      ∙ ap (λ (n : ℕ). outcome_of_emission input (with_headers [] (whole_record input n))) (hash_found p count))
+      ∙ ap (λ (o : Option (Option (List ℕ))). outcome_of_emission input (with_headers added (whole_record input (hash_of o % count)))) r.names
+      ∙ ap (λ (n : ℕ). outcome_of_emission input (with_headers added (whole_record input n))) (hash_found p count))
 
   -- what a cut emits, or why not
   abbrev pub cut_outcome : (out : ℕ) (bytes : List ℕ) (place count : ℕ) → Outcome
@@ -160,29 +160,28 @@ module _ (input : Input) (given : IsInput input) (s : State) (ready : Ready inpu
 
   pub chosen_range : (out from to : ℕ) (bytes : List ℕ) (b : Bool) →
       (if b then unless_refused (emit_code input no_yield (cut_record input out bytes from (to - from)))
-      (Kept (cut_record input out bytes from (to - from) ∷ [])) else
+      (Kept (with_headers added (cut_record input out bytes from (to - from)) ∷ [])) else
       unless_refused (emit_code input no_yield (cut_record input out bytes from (to - from))) (Rejected 4))
-      ≡ outcome_with_value input (whole_record input out) (if b then Ok (slice_range bytes from to) else
+      ≡ outcome_with_value input (with_headers added (whole_record input out)) (if b then Ok (slice_range bytes from to) else
       Err 4)
   chosen_range out from to bytes true = refl
   chosen_range out from to bytes false = refl
 
   pub cut_is : (out from to : ℕ) (bytes : List ℕ) → from ≤ to → cut_outcome out bytes from (to - from)
-      ≡ outcome_with_value input (with_headers [] (whole_record input out)) (range_of from to bytes)
+      ≡ outcome_with_value input (with_headers added (whole_record input out)) (range_of from to bytes)
   cut_is out from to bytes order =
       ap (λ (b : Yield). outcome_of
       (Number (code_unless input b (if has_part bytes from (to - from) then 0 else 4) (cut_record input out bytes from (to - from))))
       (emitted_unless input b (if has_part bytes from (to - from) then 0 else 4) (cut_record input out bytes from (to - from))).emissions) ready.none
-      ∙ cut_unless (emit_code input no_yield (cut_record input out bytes from (to - from))) (cut_record input out bytes from (to - from))
+      ∙ cut_unless added (emit_code input no_yield (cut_record input out bytes from (to - from))) (cut_record input out bytes from (to - from))
       (has_part bytes from (to - from))
       ∙ chosen_range out from to bytes (has_part bytes from (to - from))
-      ∙ ap (λ (b : Bool). outcome_with_value input (whole_record input out) (if b then
+      ∙ ap (λ (b : Bool). outcome_with_value input (with_headers added (whole_record input out)) (if b then
       Ok (slice_range bytes from to) else Err 4)) (sym (range_is from to bytes order))
-      ∙ ap (λ (e : Emission). outcome_with_value input e (range_of from to bytes)) (sym (plain_headers (whole_record input out)))
 
   pub cut_numbers : (out from to : ℕ) (bytes : List ℕ) → out ≤ 63 → from ≤ to → to ≤ 1048576 →
       cut_outcome (immediate Bits64 (pos out)) bytes (immediate Bits64 (pos from)) (immediate Bits64 (pos (to - from)))
-      ≡ outcome_with_value input (with_headers [] (whole_record input out)) (range_of from to bytes)
+      ≡ outcome_with_value input (with_headers added (whole_record input out)) (range_of from to bytes)
   cut_numbers out from to bytes few order small =
       rw (small_immediate out (omega arith), small_immediate from (omega arith), small_immediate (to - from) (omega arith))
       (cut_is out from to bytes order)
@@ -199,7 +198,7 @@ module _ (input : Input) (given : IsInput input) (s : State) (ready : Ready inpu
 
   pub part_cut_stops : (out : ℕ) (p : Part) (from to : ℕ) → FitsPart IsText p → out ≤ 63 → from ≤ to → to ≤ 1048576 →
       run input (part_cut_code out p from to) s
-      ≡ Over (outcome_with_value input (with_headers [] (whole_record input out)) (range_of from to (bytes_in p input.given)))
+      ≡ Over (outcome_with_value input (with_headers added (whole_record input out)) (range_of from to (bytes_in p input.given)))
   unfolding part_cut_code
   part_cut_stops out p from to fits few order small =
       let r = part_run input given p fits s ready in
@@ -211,7 +210,7 @@ module _ (input : Input) (given : IsInput input) (s : State) (ready : Ready inpu
       ap (λ (u : State). Over (outcome_of (u.registers 0) u.emitted.emissions)) both
       ∙ ap Over (cut_end t r.number out from to same r.is
       ∙ cut_numbers out from to (unwrap_or (unwrap_or (part_in input.given (part_numbered r.number)) None) []) few order small
-      ∙ ap (λ (l : List ℕ). outcome_with_value input (with_headers [] (whole_record input out)) (range_of from to l)) bytes)
+      ∙ ap (λ (l : List ℕ). outcome_with_value input (with_headers added (whole_record input out)) (range_of from to l)) bytes)
 
   -- ---- cuts up to a part's end
 
@@ -236,11 +235,11 @@ module _ (input : Input) (given : IsInput input) (s : State) (ready : Ready inpu
       cut_outcome out bytes place count ≡ unless_refused (emit_code input no_yield (whole_record input out)) (Rejected 4)
   no_cut out place count bytes past =
       let none = lt-leb (place + count) (length bytes) past in
-      rw (ready.none, none) (cut_unless (emit_code input no_yield (whole_record input out)) (cut_record input out bytes place count) false)
+      rw (ready.none, none) (cut_unless added (emit_code input no_yield (whole_record input out)) (cut_record input out bytes place count) false)
 
   pub rest_is : (out from : ℕ) (bytes : List ℕ) → from ≤ 1048576 → length bytes ≤ 1048576 →
       cut_outcome out bytes from (rest_count (length bytes) from)
-      ≡ outcome_with_value input (with_headers [] (whole_record input out)) (range_of from (length bytes) bytes)
+      ≡ outcome_with_value input (with_headers added (whole_record input out)) (range_of from (length bytes) bytes)
   rest_is out from bytes low few = ⊎_elim
       (λ past.
       let none = lt-leb from (length bytes) past in
@@ -254,7 +253,7 @@ module _ (input : Input) (given : IsInput input) (s : State) (ready : Ready inpu
   pub rest_numbers : (out from : ℕ) (bytes : List ℕ) → out ≤ 63 → from ≤ 1048576 → length bytes ≤ 1048576 →
       cut_outcome (immediate Bits64 (pos out)) bytes (immediate Bits64 (pos from))
       ((length bytes + 2 + (2 ^ 64 - immediate Bits64 (pos (from + 2)))) % 2 ^ 64)
-      ≡ outcome_with_value input (with_headers [] (whole_record input out)) (range_of from (length bytes) bytes)
+      ≡ outcome_with_value input (with_headers added (whole_record input out)) (range_of from (length bytes) bytes)
   rest_numbers out from bytes few low short =
       rw (small_immediate out (omega arith), small_immediate from (omega arith), small_immediate (from + 2) (omega arith))
       (rest_is out from bytes low short)
@@ -303,7 +302,7 @@ module _ (input : Input) (given : IsInput input) (s : State) (ready : Ready inpu
 
   pub rest_cut_stops : (out : ℕ) (p : Part) (from : ℕ) → FitsPart IsText p → out ≤ 63 → from ≤ 1048576 →
       run input (rest_cut_code out p from) s
-      ≡ Over (outcome_with_value input (with_headers [] (whole_record input out))
+      ≡ Over (outcome_with_value input (with_headers added (whole_record input out))
       (range_of from (length (bytes_in p input.given)) (bytes_in p input.given)))
   unfolding rest_cut_code
   rest_cut_stops out p from fits few low =
@@ -328,4 +327,4 @@ module _ (input : Input) (given : IsInput input) (s : State) (ready : Ready inpu
       (immediate Bits64 (pos from)) ((length (unwrap_or (unwrap_or (found p input.given) None) []) + 2
       + (2 ^ 64 - immediate Bits64 (pos (from + 2)))) % 2 ^ 64)) r.names
       ∙ rest_numbers out from (unwrap_or (unwrap_or (found p input.given) None) []) few low (omega (arith, size, small))
-      ∙ ap (λ (l : List ℕ). outcome_with_value input (with_headers [] (whole_record input out)) (range_of from (length l) l)) bytes)))
+      ∙ ap (λ (l : List ℕ). outcome_with_value input (with_headers added (whole_record input out)) (range_of from (length l) l)) bytes)))

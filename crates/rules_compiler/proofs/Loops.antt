@@ -1,14 +1,14 @@
 -- The rules of a text, one after another.
 use Rattle.std.proofs.Common.{◌≡◌, ℕ, zero, suc, ◌+◌, ◌≤◌, ◌<◌, true, List, [], ◌∷◌, ◌++◌, length, drop, get_or, refl, sym}
 use Rattle.std.proofs.Common.{ap, ◌∙◌, subst, arith, append_assoc, add-one, ◌&&◌, Bool}
-use Rattle.std.specs.List.{list_all, AllByRecursion}
+use Rattle.std.specs.List.{AllByRecursion}
 use Rattle.std.proofs.{Math.Seq.drop-cons, lemmas.List.append-nil}
 use Rattle.machine_spec.specs.declared.instruction.Instruction.{Instruction}
 use Rattle.rules.specs.declared.rule.Rule.{Rule}
 use Rattle.rules.specs.Lines.{Line, line_of, lines_of}
 use Rattle.rules.specs.Limits.{IsText}
 use Rattle.rules_compiler.specs.Code.{instructions}
-use Rattle.rules_compiler.specs.{Coverage.line_has_code, Rules.line_code, Rules.lines_code}
+use Rattle.rules_compiler.specs.{Rules.line_code, Rules.lines_code}
 
 pub next_rule : (list : List Rule) (k : ℕ) (rule : Rule) → k < length list → rule ≡ get_or list k rule →
     lines_of (drop k list) ≡ line_of rule ∷ lines_of (drop (k + 1) list)
@@ -25,11 +25,6 @@ code_step front made next lines rest line is so_far more =
     so_far ∙ ap (λ (l : List Line). made ++ instructions (lines_code l)) is
     ∙ sym (append_assoc made (instructions (line_code line)) (instructions (lines_code rest)))
     ∙ ap (λ (m : List Instruction). m ++ instructions (lines_code rest)) (sym more)
-
-pub has_step : (all : Bool) (lines rest : List Line) (line : Line) → lines ≡ line ∷ rest →
-    all ≡ list_all line_has_code lines → line_has_code line ≡ true → all ≡ list_all line_has_code rest
-has_step all lines rest line is so_far has =
-    so_far ∙ ap (list_all line_has_code) is ∙ ap (λ (b : Bool). b && list_all line_has_code rest) has
 
 pub fits_step : (P : Line → Type 0) (lines rest : List Line) (line : Line) → lines ≡ line ∷ rest →
     AllByRecursion P lines → AllByRecursion P rest

@@ -2,8 +2,7 @@
 use Rattle.std.proofs.Common.{◌≡◌, ◌+◌, pos, Bool, true, false}
 use Rattle.std.proofs.Common.{if◌then◌else◌, List, [], ◌∷◌, length, Option, Some}
 use Rattle.std.proofs.Common.{None, refl, sym, ap, ◌∙◌, subst}
-use Rattle.std.specs.List.{list_all, AllByRecursion}
-use Rattle.std.proofs.lemmas.Bool.{and_parts}
+use Rattle.std.specs.List.{AllByRecursion}
 use Rattle.machine_spec.specs.declared.{outcome.Outcome.Outcome}
 use Rattle.machine_spec.specs.declared.outcome.Outcome.TheVariants.{Kept}
 use Rattle.machine_spec.specs.declared.instruction.Source.TheVariants.{Immediate}
@@ -22,7 +21,6 @@ use Rattle.rules_compiler.specs.Actions.{action_code}
 use Rattle.rules_compiler.specs.Rules.{condition_code, guarded_code, line_code, lines_code, rest_code, body_of}
 use Rattle.rules_compiler.specs.Rules.{code_of}
 use Rattle.rules_compiler.proofs.Walks.{Course, On, Over, then_on, run_list, run}
-use Rattle.rules_compiler.specs.Coverage.{when_has_code, line_has_code}
 use Rattle.rules_compiler.proofs.Ready.{Ready}
 use Rattle.rules_compiler.proofs.Courses.{bit_of, then_runs, skipped, entered}
 use Rattle.rules_compiler.proofs.Effects.{condition_decides}
@@ -47,24 +45,23 @@ module _ (input : Input) (given : IsInput input) where
     assumption ready,
   )
 
-  guarded_ends : (c : Option Formula) (block : Code) (o : Outcome) → when_has_code c ≡ true → FitsWhen IsText c →
+  guarded_ends : (c : Option Formula) (block : Code) (o : Outcome) → FitsWhen IsText c →
       ((u : State) → Ready input u → run input block u ≡ Over o) → (s : State) → Ready input s →
       EndsIf input o (holds_if c input.given input.place) (run input (guarded_code c block) s)
-  guarded_ends None block o has fits stops s ready = stops s ready
-  guarded_ends (Some c) block o has fits stops s ready =
-      let d = condition_decides input given c has fits.tests s ready in
+  guarded_ends None block o fits stops s ready = stops s ready
+  guarded_ends (Some c) block o fits stops s ready =
+      let d = condition_decides input given c fits.tests s ready in
       let guard : Code = Unless jumps.Equal 8 (Immediate (pos 0)) block in
       subst (EndsIf input o (holds c input.given input.place))
       (sym (then_runs input (condition_code c) guard s d.state (run input guard d.state) d.runs refl))
       (block_ends block o d.state stops d.ready (holds c input.given input.place) d.truth)
 
-  line_ends : (line : Line) → line_has_code line ≡ true → FitsLine IsText line → (s : State) → Ready input s →
+  line_ends : (line : Line) → FitsLine IsText line → (s : State) → Ready input s →
       EndsIf input (outcome_of_action line.action input) (takes line input.given input.place) (run input (line_code line) s)
   unfolding line_code
-  line_ends line has fits s ready =
-      let both = and_parts _ _ has in
-      guarded_ends line.condition (action_code line.action) (outcome_of_action line.action input) both.0 fits.condition
-      (λ u clear. action_stops input given u clear line.action both.1 fits.action) s ready
+  line_ends line fits s ready =
+      guarded_ends line.condition (action_code line.action) (outcome_of_action line.action input) fits.condition
+      (λ u clear. action_stops input given u clear line.action fits.action) s ready
 
   -- the run ends as a rule does that is chosen, if one is
   abbrev EndsAs : Option Line → Course → Type 0
@@ -78,15 +75,14 @@ module _ (input : Input) (given : IsInput input) where
   first_or line rest false c go e next =
       subst (λ (d : Course). EndsAs rest (then_on d go)) (sym e.1) (next e.0 e.2)
 
-  lines_end : (lines : List Line) → list_all line_has_code lines ≡ true → AllByRecursion (FitsLine IsText) lines →
+  lines_end : (lines : List Line) → AllByRecursion (FitsLine IsText) lines →
       (s : State) → Ready input s → EndsAs (chosen lines input.given input.place) (run input (lines_code lines) s)
   unfolding lines_code
-  lines_end [] has fits s ready = (s, refl, ready)
-  lines_end (line ∷ lines) has fits s ready =
-      let both = and_parts _ _ has in
+  lines_end [] fits s ready = (s, refl, ready)
+  lines_end (line ∷ lines) fits s ready =
       first_or line (chosen lines input.given input.place) (takes line input.given input.place) (run input (line_code line) s)
-      (λ t. run input (lines_code lines) t) (line_ends line both.0 fits.0 s ready)
-      (λ t clear. lines_end lines both.1 fits.1 t clear)
+      (λ t. run input (lines_code lines) t) (line_ends line fits.0 s ready)
+      (λ t clear. lines_end lines fits.1 t clear)
 
   -- what is behind the rules keeps the record
   rest_or : (found : Option Line) (c : Course) → EndsAs found c →
@@ -99,9 +95,9 @@ module _ (input : Input) (given : IsInput input) where
   abbrev first_state : State
   first_state = run_list input (copy 7 2 ∷ copy 9 1 ∷ []) (entry input)
 
-  pub rules_end : (lines : List Line) → list_all line_has_code lines ≡ true → AllByRecursion (FitsLine IsText) lines →
+  pub rules_end : (lines : List Line) → AllByRecursion (FitsLine IsText) lines →
       run input (code_of lines) (entry input) ≡ Over (outcome_of_rules lines input)
   unfolding code_of body_of state_after
-  rules_end lines has fits =
+  rules_end lines fits =
       rest_or (chosen lines input.given input.place) (run input (lines_code lines) first_state)
-      (lines_end lines has fits first_state (record { none = refl; length_is = refl; value_is = refl; frame_is = refl }))
+      (lines_end lines fits first_state (record { none = refl; length_is = refl; value_is = refl; frame_is = refl }))

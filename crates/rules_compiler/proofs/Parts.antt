@@ -26,9 +26,9 @@ use Rattle.rules_compiler.specs.declared.pieces.TheConstants.{NEAR}
 use Rattle.rules_compiler.specs.Pieces.{word_count, text_code, header_call, header_number, part_code}
 use Rattle.rules_compiler.proofs.Walks.{run_list}
 use Rattle.machine_spec.proofs.PartAnswers.{value_part}
-use Rattle.rules_compiler.proofs.Ready.{Ready, small_immediate}
+use Rattle.rules_compiler.proofs.Ready.{ReadyWith, small_immediate}
 use Rattle.rules_compiler.proofs.Texts.{LeadsTo, leads_both, runs_both, shape, words_of, named_rightly, AreBytes, HasText, text_has}
-use Rattle.rules_compiler.proofs.Texts.{text_read, text_leads, text_set, bytes_of_text}
+use Rattle.rules_compiler.proofs.Texts.{near_stands, text_read, text_leads, text_set, bytes_of_text}
 
 -- ---- flows
 
@@ -66,9 +66,9 @@ module _ (key : List ℕ) (few : length key ≤ 255) where
     record_bounds = refl;
     stack_bounds = refl;
     stack_unset = refl;
-    argument = rw (named_rightly named (immediate Bits64 (pos (length key))) (length key)
-        (small_immediate (length key) (omega arith)) few
-        (λ q low high. text_set no_places (length key) q few low high)) refl;
+    argument = rw (named_rightly 256 named (immediate Bits64 (pos (length key))) (length key)
+        (small_immediate (length key) (omega arith)) (omega arith)
+        (λ q low high. text_set 256 no_places (length key) q (omega arith) few low high)) refl;
     exit = refl;
   })
 
@@ -105,7 +105,7 @@ module _ (key : List ℕ) (few : length key ≤ 255) where
     leads = leads_both (text_code NEAR key) (header_call (length key) ++ (Call (pos 19) ∷ header_number))
         (shape Abs.None Abs.None Abs.None Abs.None Abs.None Abs.None Abs.None Abs.None no_places)
         (plain_shape Abs.None Abs.None) (plain_shape (Abs.Num 0 16) (Abs.Num 3 8589934593))
-        (text_leads Abs.None Abs.None Abs.None Abs.None Abs.None Abs.None Abs.None Abs.None key few no_places)
+        (text_leads near_stands Abs.None Abs.None Abs.None Abs.None Abs.None Abs.None Abs.None Abs.None key few no_places)
         (leads_both (header_call (length key)) (Call (pos 19) ∷ header_number) (plain_shape Abs.None Abs.None) named
         (plain_shape (Abs.Num 0 16) (Abs.Num 3 8589934593)) name_leads search_leads);
   }
@@ -176,9 +176,9 @@ null_is (part.Header key) given = from (header_named key given.headers)
 -- ---- the number of a part
 
 -- r6 has the number of the part
-pub record PartRun (input : Input) (p : Part) (s : State) : Type 0 where
+pub record PartRun (input : Input) (added : List Header) (p : Part) (s : State) : Type 0 where
   pub number : ℕ
-  pub ready : Ready input (run_list input (part_code p) s)
+  pub ready : ReadyWith input added (run_list input (part_code p) s)
   pub is : (run_list input (part_code p) s).registers 6 ≡ Number number
   pub names : part_in input.given (part_numbered number) ≡ found p input.given
 
@@ -220,8 +220,8 @@ module _ (given : Record) (few : length given.headers ≤ 16) (key : List ℕ) w
   header_names : part_in given (part_numbered (number_from (header_answer given key))) ≡ found (part.Header key) given
   header_names = named_part (position_or_len (λ (h : Header). bytes_eq h.key key) given.headers) ∙ sym found_is
 
-module _ (input : Input) (key : List ℕ) (t : State) (has : HasText input t t.registers key (word_count (length key)))
-    (few : length key ≤ 255) where
+module _ (input : Input) (added : List Header) (key : List ℕ) (t s : State)
+    (has : HasText input added 256 t s key (word_count (length key))) (few : length key ≤ 255) where
   abbrev search : List Instruction
   search = header_call (length key) ++ (Call (pos 19) ∷ header_number)
 
@@ -230,32 +230,30 @@ module _ (input : Input) (key : List ℕ) (t : State) (has : HasText input t t.r
   unfolding state_after helper_among
   searched =
       let frame = has.ready.frame_is in
-      let text = text_read input t.stack key (immediate Bits64 (pos (length key)))
+      let text = text_read 256 input t.stack key (immediate Bits64 (pos (length key)))
       (result_of Bits64 Add (t.registers 10) (Number (immediate Bits64 NEAR))) (Number (immediate Bits64 (pos (length key))))
       has.holds (rw frame refl) refl (small_immediate (length key) (omega arith)) in
       ap (λ (bytes : List ℕ). Number (number_from (header_answer input.given bytes))) text
 
-  search_ready : Ready input (run_list input (header_call (length key) ++ (Call (pos 19) ∷ header_number)) t)
+  search_ready : ReadyWith input added (run_list input (header_call (length key) ++ (Call (pos 19) ∷ header_number)) t)
   unfolding state_after helper_among
   search_ready = assumption has.ready
 
-pub part_run : (input : Input) → IsInput input → (p : Part) → FitsPart IsText p → (s : State) → Ready input s →
-    PartRun input p s
+pub part_run : (input : Input) → IsInput input → {added : List Header} → (p : Part) → FitsPart IsText p → (s : State) →
+    ReadyWith input added s → PartRun input added p s
 unfolding part_code state_after
-part_run input given part.Value fits s ready =
+part_run input given {added = added} part.Value fits s ready =
     record { number = 0; ready = assumption ready; is = refl; names = refl }
-part_run input given part.Key fits s ready =
+part_run input given {added = added} part.Key fits s ready =
     record { number = 1; ready = assumption ready; is = refl; names = refl }
-part_run input given (part.Header key) fits s ready =
+part_run input given {added = added} (part.Header key) fits s ready =
     let t = run_list input (text_code NEAR key) s in
-    let has = text_has input key (bytes_of_text key fits) fits.few s ready in
-    let same : HasText input t t.registers key (word_count (length key)) =
-    record { ready = has.ready; kept = λ r. refl; holds = has.holds } in
+    let has = text_has input near_stands key (bytes_of_text key fits) fits.few s ready in
     let both = runs_both input (text_code NEAR key) (header_call (length key) ++ (Call (pos 19) ∷ header_number)) s in
     record {
       number = number_from (header_answer input.given key);
-      ready = subst (Ready input) (sym both) (search_ready input key t same fits.few);
-      is = ap (λ (u : State). u.registers 6) both ∙ searched input key t same fits.few;
+      ready = subst (ReadyWith input added) (sym both) (search_ready input added key t s has fits.few);
+      is = ap (λ (u : State). u.registers 6) both ∙ searched input added key t s has fits.few;
       names = header_names input.given given.limits.headers.few key;
     }
 

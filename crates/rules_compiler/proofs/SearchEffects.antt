@@ -18,7 +18,7 @@ use Rattle.rules_compiler.specs.Code.{Code, Plain, Then, Unless}
 use Rattle.rules_compiler.specs.Pieces.{set, word_count, text_code, part_code}
 use Rattle.rules_compiler.specs.declared.pieces.TheConstants.{NEAR}
 use Rattle.rules_compiler.proofs.Ready.{Ready, small_immediate}
-use Rattle.rules_compiler.proofs.Texts.{runs_both, HoldsText, text_has, text_read, bytes_of_text}
+use Rattle.rules_compiler.proofs.Texts.{near_stands, runs_both, HoldsText, text_has, text_read, bytes_of_text}
 use Rattle.rules_compiler.proofs.Parts.{found, bytes_found, part_run}
 use Rattle.machine_spec.specs.{Parts.part_numbered, Places.stand_at, Values.result_of}
 use Rattle.std.proofs.lemmas.Bool.{lt-leb, cases_lt, leb-true}
@@ -79,7 +79,7 @@ module _ (input : Input) (text : List ℕ) (few : length text ≤ 255) (number :
       let frame = l.ready.frame_is in
       let is = l.part in
       let at = small_immediate place (omega arith) in
-      let read = text_read input t.stack text (immediate Bits64 (pos (length text)))
+      let read = text_read 256 input t.stack text (immediate Bits64 (pos (length text)))
       (result_of Bits64 Add (t.registers 10) (Number (immediate Bits64 NEAR))) (Number (immediate Bits64 (pos (length text))))
       l.holds (rw frame refl) refl (small_immediate (length text) (omega arith)) in
       rw (is, read, at) refl
@@ -310,7 +310,7 @@ unfolding has_code
 has_decides input given s ready p text fits is =
     let r = part_run input given p fits s ready in
     let t = run_list input (part_code p) s in
-    let has = text_has input text (bytes_of_text text is) is.few t r.ready in
+    let has = text_has input near_stands text (bytes_of_text text is) is.few t r.ready in
     let u = run_list input (text_code NEAR text) t in
     let v = run_list input (set 8 (pos 0) ∷ []) u in
     let one = runs_both input (part_code p) (text_code NEAR text ++ set 8 (pos 0) ∷ []) s in

@@ -27,7 +27,7 @@ use Rattle.rules_compiler.specs.Pieces.{set, copy, change, word_count, text_code
 use Rattle.rules.specs.Limits.{IsText, FitsPart}
 use Rattle.rules_compiler.proofs.Ready.{small_immediate}
 use Rattle.rules_compiler.proofs.Parts.{part_flow}
-use Rattle.rules_compiler.proofs.Texts.{LeadsTo, leads_both, shape, words_of, named_rightly, text_leads, text_set}
+use Rattle.rules_compiler.proofs.Texts.{near_stands, LeadsTo, leads_both, shape, words_of, named_rightly, text_leads, text_set}
 use Rattle.rules_compiler.specs.declared.pieces.TheConstants.{NEAR}
 use Rattle.rules_compiler.proofs.Flows.{Flow, Passing, after_proper}
 use Rattle.verifier_spec.proofs.Proper.{with_kind_proper}
@@ -87,7 +87,8 @@ module _ (low high : ℕ) (held : StackSet) (size : ℕ) (few : size ≤ 255)
     record_bounds = refl;
     stack_bounds = refl;
     stack_unset = refl;
-    argument = rw (named_rightly (beside place) (immediate Bits64 (pos size)) size (small_immediate size (omega arith)) few all) refl;
+    argument = rw (named_rightly 256 (beside place) (immediate Bits64 (pos size)) size (small_immediate size (omega arith))
+        (omega arith) all) refl;
     exit = refl;
   })
 
@@ -227,11 +228,11 @@ has_flow p text fits is =
     let list = part_code p ++ (text_code NEAR text ++ set 8 (pos 0) ∷ []) in
     let leads = leads_both (part_code p) (text_code NEAR text ++ set 8 (pos 0) ∷ []) settled before cleared f.leads
     (leads_both (text_code NEAR text) (set 8 (pos 0) ∷ []) before texted cleared
-    (text_leads f.answer Abs.None Abs.None Abs.None Abs.None Abs.None (Abs.Num f.low f.high) Abs.None text is.few f.places)
+    (text_leads near_stands f.answer Abs.None Abs.None Abs.None Abs.None Abs.None (Abs.Num f.low f.high) Abs.None text is.few f.places)
     (clear_leads f.answer f.low f.high held)) in
     let proper = subst (λ (d : Abstract). is_proper d ≡ true) leads.is (after_proper list settled leads.passed refl) in
     let base = with_kind_proper cleared 0 Abs.None proper refl in
-    let all = λ (q : ℕ) (low : 256 ≤ q) (high : q < 256 + length text). text_set f.places (length text) q is.few low high in (
+    let all = λ (q : ℕ) (low : 256 ≤ q) (high : q < 256 + length text). text_set 256 f.places (length text) q (omega arith) is.few low high in (
       numbered Abs.None f.low f.high (Abs.Num 0 0) held,
       base,
       passing_from list settled cleared (numbered Abs.None f.low f.high (Abs.Num 0 0) held) leads

@@ -1,7 +1,7 @@
 -- The flow of each term, test and condition.
 use Rattle.std.proofs.Common.{◌≡◌, ℕ, ◌+◌, ◌^◌, ◌≤◌, pos, length, true, false, List, [], ◌∷◌, ◌++◌}
 use Rattle.std.proofs.Common.{Option, Some, None, refl, arith, nat_lt, ℤ, ◌⊎◌, ⊎_elim, inl, inr}
-use Rattle.std.proofs.lemmas.Bool.{cond_both, and_parts}
+use Rattle.std.proofs.lemmas.Bool.{cond_both}
 use Rattle.wire_spec.specs.declared.limits.TheConstants.{MAX_VALUE}
 use Rattle.machine_spec.specs.declared.{helper.TheConstants.HELPERS, instruction.Region.Region}
 use Rattle.machine_spec.specs.declared.instruction.Instruction.{Instruction}
@@ -28,7 +28,6 @@ use Rattle.rules.specs.declared.{rule.Test.Test as Tests}
 use Rattle.rules.specs.declared.rule.Term.TheVariants as term
 use Rattle.rules.specs.declared.rule.Test.TheVariants as test
 use Rattle.rules.specs.Lines.{Formula, Single, Negated, Both, Either}
-use Rattle.rules_compiler.specs.Coverage.{term_has_code, test_has_code, formula_has_code}
 use Rattle.rules_compiler.specs.Code.{Code, Plain, Then, Unless}
 use Rattle.rules_compiler.specs.Pieces.{set, copy, change, high_half, low_half, word_count, text_code, part_code}
 use Rattle.rules_compiler.specs.Terms.{count_code, decimal_code, answer_code, term_code}
@@ -37,7 +36,7 @@ use Rattle.rules_compiler.specs.Rules.{condition_code}
 use Rattle.rules.specs.Limits.{IsText, FitsPart, FitsTerm, FitsTest, HasFitting}
 use Rattle.rules_compiler.proofs.Ready.{small_immediate}
 use Rattle.rules_compiler.proofs.Parts.{part_flow}
-use Rattle.rules_compiler.proofs.Texts.{LeadsTo, leads_both, shape, words_of, named_rightly, text_leads, text_set}
+use Rattle.rules_compiler.proofs.Texts.{near_stands, LeadsTo, leads_both, shape, words_of, named_rightly, text_leads, text_set}
 use Rattle.rules_compiler.specs.declared.pieces.TheConstants.{NEAR}
 use Rattle.rules_compiler.proofs.Flows.{Flow, Passing, Skips, pass, after, after_proper}
 use Rattle.rules_compiler.proofs.SearchFlows.{has_flow}
@@ -98,15 +97,15 @@ decimal_flow p place count fits =
       ),
     )
 
-pub term_flow : (t : Term) → term_has_code t ≡ true → FitsTerm IsText t → Flow (term_code t) settled valued
+pub term_flow : (t : Term) → FitsTerm IsText t → Flow (term_code t) settled valued
 unfolding term_code answer_code failed_check falls_to each_below helper_among
-term_flow (term.Length p) has fits = count_flow p fits
-term_flow (term.Number layout p place) has fits = layout_flow layout p place fits.0
-term_flow (term.Decimal p place count) has fits = decimal_flow p place count fits.0
-term_flow term.Offset has fits = record { passed = refl; within = loosely _ valued refl refl refl refl }
-term_flow term.Timestamp has fits = record { passed = refl; within = loosely _ valued refl refl refl refl }
-term_flow term.Partition has fits = record { passed = refl; within = loosely _ valued refl refl refl refl }
-term_flow term.Headers has fits = record { passed = refl; within = loosely _ valued refl refl refl refl }
+term_flow (term.Length p) fits = count_flow p fits
+term_flow (term.Number layout p place) fits = layout_flow layout p place fits.0
+term_flow (term.Decimal p place count) fits = decimal_flow p place count fits.0
+term_flow term.Offset fits = record { passed = refl; within = loosely _ valued refl refl refl refl }
+term_flow term.Timestamp fits = record { passed = refl; within = loosely _ valued refl refl refl refl }
+term_flow term.Partition fits = record { passed = refl; within = loosely _ valued refl refl refl refl }
+term_flow term.Headers fits = record { passed = refl; within = loosely _ valued refl refl refl refl }
 
 -- ---- tests
 
@@ -191,13 +190,13 @@ comparing_flow how n = cond_both (nat_lt n (2 ^ 31)) (small_list n) (great_list 
       within = loosely (after (set 8 (pos 0) ∷ []) (after (great_list n) valued)) decided refl refl refl refl;
     }))
 
-pub compare_flow : (t : Term) (how : Comparison) (n : ℕ) → term_has_code t ≡ true → FitsTerm IsText t →
+pub compare_flow : (t : Term) (how : Comparison) (n : ℕ) → FitsTerm IsText t →
     Flow (compare_code t how n) settled decided
 unfolding compare_code failed_check falls_to jumps_to each_below is_proper helper_among
-compare_flow t how n has fits = (
+compare_flow t how n fits = (
   valued,
   refl,
-  term_flow t has fits,
+  term_flow t fits,
   (
     valued,
     record {
@@ -232,8 +231,8 @@ module _ (answer : Abs) (low high : ℕ) (places : StackSet) (size : ℕ) (few :
     record_bounds = refl;
     stack_bounds = refl;
     stack_unset = refl;
-    argument = rw (named_rightly beside (immediate Bits64 (pos size)) size (small_immediate size (omega arith)) few
-        (λ q from to. text_set places size q few from to)) refl;
+    argument = rw (named_rightly 256 beside (immediate Bits64 (pos size)) size (small_immediate size (omega arith))
+        (omega arith) (λ q from to. text_set 256 places size q (omega arith) few from to)) refl;
     exit = refl;
   })
 
@@ -296,7 +295,7 @@ asked_flow p text fits is =
     passing_from (part_code p ++ (text_code NEAR text ++ stands (length text))) settled behind asked
     (leads_both (part_code p) (text_code NEAR text ++ stands (length text)) settled before behind f.leads
     (leads_both (text_code NEAR text) (stands (length text)) before held behind
-    (text_leads f.answer Abs.None Abs.None Abs.None Abs.None Abs.None (Abs.Num f.low f.high) Abs.None text is.few f.places)
+    (text_leads near_stands f.answer Abs.None Abs.None Abs.None Abs.None Abs.None (Abs.Num f.low f.high) Abs.None text is.few f.places)
     (stands_lead f.answer f.low f.high f.places (length text) is.few)))
     (loosely behind asked refl refl refl refl)
 
@@ -305,14 +304,14 @@ pub text_test_flow : (p : Part) (text : List ℕ) (how : Jumps) (number : ℕ) �
 unfolding text_test_code is_proper
 text_test_flow p text how number fits is = (asked, refl, asked_flow p text fits is, asking_flow how number)
 
-pub test_flow : (t : Tests) → test_has_code t ≡ true → FitsTest IsText t → Flow (test_code t) settled decided
+pub test_flow : (t : Tests) → FitsTest IsText t → Flow (test_code t) settled decided
 unfolding test_code
-test_flow (test.Null p) has fits = length_test_flow p (pos 1) fits (inr refl)
-test_flow (test.Absent p) has fits = length_test_flow p (pos 0) fits (inl refl)
-test_flow (test.Equal p text) has fits = text_test_flow p text jumps.Equal (length text + 2) fits.0 fits.1
-test_flow (test.Begins p text) has fits = text_test_flow p text jumps.GreaterOrEqual 2 fits.0 fits.1
-test_flow (test.Has p text) has fits = has_flow p text fits.0 fits.1
-test_flow (test.Compare t how number) has fits = compare_flow t how number has fits.0
+test_flow (test.Null p) fits = length_test_flow p (pos 1) fits (inr refl)
+test_flow (test.Absent p) fits = length_test_flow p (pos 0) fits (inl refl)
+test_flow (test.Equal p text) fits = text_test_flow p text jumps.Equal (length text + 2) fits.0 fits.1
+test_flow (test.Begins p text) fits = text_test_flow p text jumps.GreaterOrEqual 2 fits.0 fits.1
+test_flow (test.Has p text) fits = has_flow p text fits.0 fits.1
+test_flow (test.Compare t how number) fits = compare_flow t how number fits.0
 
 -- ---- conditions
 
@@ -368,21 +367,19 @@ negated_flow = record {
   within = loosely (after (change Xor 8 (pos 1) ∷ []) decided) decided refl refl refl refl;
 }
 
-pub condition_flow : (c : Formula) → formula_has_code c ≡ true → HasFitting IsText c → Flow (condition_code c) settled decided
+pub condition_flow : (c : Formula) → HasFitting IsText c → Flow (condition_code c) settled decided
 unfolding condition_code
-condition_flow (Single t) has fits = test_flow t has fits
-condition_flow (Negated inner) has fits = (decided, decided_proper, condition_flow inner has fits, negated_flow)
-condition_flow (Both one other) has fits =
-    let both = and_parts _ _ has in (
-      decided,
-      decided_proper,
-      condition_flow one both.0 fits.0,
-      skip_flow (condition_code other) decided zero_decided (condition_flow other both.1 fits.1),
-    )
-condition_flow (Either one other) has fits =
-    let both = and_parts _ _ has in (
-      decided,
-      decided_proper,
-      condition_flow one both.0 fits.0,
-      skip_not_flow (condition_code other) (condition_flow other both.1 fits.1),
-    )
+condition_flow (Single t) fits = test_flow t fits
+condition_flow (Negated inner) fits = (decided, decided_proper, condition_flow inner fits, negated_flow)
+condition_flow (Both one other) fits = (
+  decided,
+  decided_proper,
+  condition_flow one fits.0,
+  skip_flow (condition_code other) decided zero_decided (condition_flow other fits.1),
+)
+condition_flow (Either one other) fits = (
+  decided,
+  decided_proper,
+  condition_flow one fits.0,
+  skip_not_flow (condition_code other) (condition_flow other fits.1),
+)

@@ -24,8 +24,8 @@ use Rattle.rules.specs.Limits.{IsText, FitsPart, FitsTerm, FitsTest, HasFitting}
 use Rattle.rules_compiler.specs.Code.{Code, Plain, Then, Unless, instructions}
 use Rattle.rules_compiler.specs.Pieces.{set, copy, change, number_code, word_at, word_store, words_code, word_count, text_code}
 use Rattle.rules_compiler.specs.Pieces.{header_call, header_number, part_code, measure, high_half, low_half}
-use Rattle.rules_compiler.specs.declared.pieces.TheConstants.{NEAR}
-use Rattle.rules_compiler.proofs.Texts.{AreBytes, quad_small, bytes_of_text}
+use Rattle.rules_compiler.specs.declared.pieces.TheConstants.{NEAR, FAR}
+use Rattle.rules_compiler.proofs.Texts.{StandsAt, near_stands, AreBytes, quad_small, bytes_of_text}
 use Rattle.std.proofs.Common.{◌+ℤ◌, ◌*◌}
 use Rattle.std.proofs.lemmas.Int.{ints}
 use Rattle.machine_spec.specs.declared.instruction.Instruction.TheVariants.{Store, Load}
@@ -110,23 +110,35 @@ spelt_less r low = record {
   imm = fits_imm 1 (omega arith);
 }
 
-pub near_fits : (k : ℕ) → k < 64 → FitsSigned w16 (NEAR +ℤ pos (4 * k))
-near_fits k few = fits_signed_from_abs w16 (NEAR +ℤ pos (4 * k)) (omega (arith, ints))
+pub word_fits : (start : ℤ) (base : ℕ) → StandsAt start base → (k : ℕ) → k < 64 → FitsSigned w16 (start +ℤ pos (4 * k))
+word_fits start base stands k few =
+    let is = stands.is in
+    let low = stands.low in
+    fits_signed_from_abs w16 (start +ℤ pos (4 * k)) (omega (arith, ints))
 
 pub spelt_near : (r : ℕ) → nat_le r 10 ≡ true → IsSpelt (change Add r NEAR)
 spelt_near r low = spelt_change r low Add NEAR refl (fits_signed_from_abs w32 NEAR (omega (arith, ints)))
 
-pub words_spelt : (text : List ℕ) → AreBytes text → (k : ℕ) → k ≤ 64 → AreSpelt (words_code NEAR text k)
-unfolding words_code
-words_spelt text bytes zero few = tt
-words_spelt text bytes (suc k) few = spelt_both (words_code NEAR text k) (word_store NEAR text k ∷ [])
-    (words_spelt text bytes k (omega arith))
-    (spelt_store (NEAR +ℤ pos (4 * k)) (word_at text (4 * k)) (near_fits k (omega arith)) (fits_half _ (quad_small text bytes (4 * k))), tt)
+pub spelt_far : (r : ℕ) → nat_le r 10 ≡ true → IsSpelt (change Add r FAR)
+spelt_far r low = spelt_change r low Add FAR refl (fits_signed_from_abs w32 FAR (omega (arith, ints)))
 
-pub text_spelt : (text : List ℕ) (list : List Instruction) → IsText text → AreSpelt list → AreSpelt (text_code NEAR text ++ list)
-text_spelt text list is are =
+pub words_spelt : (start : ℤ) (base : ℕ) → StandsAt start base → (text : List ℕ) → AreBytes text → (k : ℕ) → k ≤ 64 →
+    AreSpelt (words_code start text k)
+unfolding words_code
+words_spelt start base stands text bytes zero few = tt
+words_spelt start base stands text bytes (suc k) few = spelt_both (words_code start text k) (word_store start text k ∷ [])
+    (words_spelt start base stands text bytes k (omega arith)) (
+      spelt_store (start +ℤ pos (4 * k)) (word_at text (4 * k)) (word_fits start base stands k (omega arith))
+          (fits_half _ (quad_small text bytes (4 * k))),
+      tt,
+    )
+
+pub text_spelt : {start : ℤ} {base : ℕ} → StandsAt start base → (text : List ℕ) (list : List Instruction) → IsText text →
+    AreSpelt list → AreSpelt (text_code start text ++ list)
+text_spelt {start = start} {base = base} stands text list is are =
     let few = is.few in
-    spelt_both (text_code NEAR text) list (words_spelt text (bytes_of_text text is) (word_count (length text)) (omega arith)) are
+    spelt_both (text_code start text) list
+    (words_spelt start base stands text (bytes_of_text text is) (word_count (length text)) (omega arith)) are
 
 pub part_spelt : (p : Part) (list : List Instruction) → FitsPart IsText p → AreSpelt list → AreSpelt (part_code p ++ list)
 unfolding part_code
@@ -135,7 +147,7 @@ part_spelt part.Key list fits are = (spelt_set 6 refl (pos 1) (fits_imm 1 (omega
 part_spelt (part.Header key) list fits are =
     let few = fits.few in
     spelt_both (text_code NEAR key ++ (header_call (length key) ++ (Call (pos 19) ∷ header_number))) list
-    (text_spelt key (header_call (length key) ++ (Call (pos 19) ∷ header_number)) fits (
+    (text_spelt near_stands key (header_call (length key) ++ (Call (pos 19) ∷ header_number)) fits (
       spelt_copy 1 refl 10 refl,
       (
         spelt_near 1 refl,
@@ -318,7 +330,7 @@ unfolding text_test_code
 text_test_spells p text how n fits is small = spells_then
     (spells_plain (part_code p ++ (text_code NEAR text ++ stands (length text)))
     (part_spelt p (text_code NEAR text ++ stands (length text)) fits
-    (text_spelt text (stands (length text)) is (stands_spelt (length text) is.few))))
+    (text_spelt near_stands text (stands (length text)) is (stands_spelt (length text) is.few))))
     (spells_unless how 0 (pos n) refl (fits_imm n small) (spells_plain (set 8 (pos 0) ∷ []) (set_zero 8 refl, tt)))
 
 pub look_spelt : (size place : ℕ) → size ≤ 255 → place ≤ 65536 → AreSpelt (look size place)
@@ -356,7 +368,7 @@ pub has_spells : (p : Part) (text : List ℕ) → FitsPart IsText p → IsText t
 unfolding has_code
 has_spells p text fits is = spells_then
     (spells_plain (part_code p ++ (text_code NEAR text ++ set 8 (pos 0) ∷ []))
-    (part_spelt p (text_code NEAR text ++ set 8 (pos 0) ∷ []) fits (text_spelt text (set 8 (pos 0) ∷ []) is (set_zero 8 refl, tt))))
+    (part_spelt p (text_code NEAR text ++ set 8 (pos 0) ∷ []) fits (text_spelt near_stands text (set 8 (pos 0) ∷ []) is (set_zero 8 refl, tt))))
     (searches_spell (length text) 0 OTHERS is.few (omega arith))
 
 pub test_spells : (t : Tests) → FitsTest IsText t → Spells (test_code t)

@@ -7,23 +7,24 @@ use Rattle.machine_spec.specs.declared.instruction.Instruction.TheVariants.{Call
 use Rattle.machine_spec.specs.declared.operation.Operation.TheVariants.{Sub, Mod}
 use Rattle.machine_spec.specs.declared.operation.Test.TheVariants as jumps
 use Rattle.rules.specs.declared.{rule.Part.Part}
-use Rattle.rules.specs.declared.{rule.Output.Output, rule.Action.Action}
+use Rattle.rules.specs.declared.{rule.Output.Output, rule.AddedHeader.AddedHeader, rule.Action.Action}
 use Rattle.rules.specs.declared.rule.Output.TheVariants as output
 use Rattle.rules.specs.declared.rule.Action.TheVariants as action
 use Rattle.rules.specs.Lines.{Formula, Line}
-use Rattle.rules.specs.Limits.{IsText, FitsPart, FitsEnd, FitsOutput, FitsAction, FitsWhen, FitsLine}
+use Rattle.rules.specs.Limits.{IsText, FitsPart, FitsEnd, FitsOutput, FitsAdded, FitsAction, FitsWhen, FitsLine}
 use Rattle.rules_compiler.specs.Code.{Code, Ends}
 use Rattle.rules_compiler.specs.Pieces.{set, copy, change, number_code, text_code}
 use Rattle.rules_compiler.specs.Pieces.{part_code}
-use Rattle.rules_compiler.specs.declared.pieces.TheConstants.{NEAR}
+use Rattle.rules_compiler.specs.declared.pieces.TheConstants.{NEAR, FAR}
 use Rattle.rules_compiler.specs.Actions.{drop_code, plain_code, hashed_code, part_cut_code, rest_cut_code, cut_code, output_code}
-use Rattle.rules_compiler.specs.Actions.{change_call, changed_code, action_code}
+use Rattle.rules_compiler.specs.Actions.{change_call, changed_code, name_header, added_code, with_added, action_code}
 use Rattle.rules_compiler.specs.Rules.{guarded_code, line_code, lines_code, body_of}
 use Rattle.rules_compiler.proofs.Spelt.{fits_imm, fits_zero}
 use Rattle.rules_compiler.proofs.Spelt.{spelt_call, spelt_change, spelt_copy, spelt_exit}
 use Rattle.rules_compiler.proofs.Spelt.{spelt_set}
 use Rattle.rules_compiler.proofs.SpeltCode.{Spells, condition_spells, number_spelt, part_spelt, set_zero}
-use Rattle.rules_compiler.proofs.SpeltCode.{spells_plain, spells_then, spells_unless, spelt_near, text_spelt}
+use Rattle.rules_compiler.proofs.SpeltCode.{spells_plain, spells_then, spells_unless, spelt_near, spelt_far, text_spelt}
+use Rattle.rules_compiler.proofs.Texts.{near_stands, far_stands}
 use Rattle.rules_compiler.proofs.Spelt.{spelt_call, spelt_set}
 
 -- ---- actions
@@ -95,12 +96,15 @@ cut_spells out p from (Some to) fits few low ends = spells_then
       ),
     ))) ends_spells
 
+text_small : (size : ℕ) → size ≤ 255 → size < 2 ^ 31
+text_small size few = omega arith
+
 changed_spells : (out from to : ℕ) (text : List ℕ) → IsText text → out ≤ 63 → from ≤ 1048576 → to ≤ 1048576 →
     Spells (changed_code out from to text)
 unfolding changed_code
 changed_spells out from to text is few low high = spells_then
     (spells_plain (text_code NEAR text ++ (change_call out from to (length text) ++ Call (pos 21) ∷ []))
-    (text_spelt text (change_call out from to (length text) ++ Call (pos 21) ∷ []) is (
+    (text_spelt near_stands text (change_call out from to (length text) ++ Call (pos 21) ∷ []) is (
       spelt_set 1 refl (pos out) (fits_imm out (omega arith)),
       (
         spelt_set 2 refl (pos from) (fits_imm from (omega arith)),
@@ -119,9 +123,37 @@ changed_spells out from to text is few low high = spells_then
         ),
       ),
     ))) ends_spells
-  where
-    text_small : (size : ℕ) → size ≤ 255 → size < 2 ^ 31
-    text_small size few = omega arith
+
+added_spells : (key value : List ℕ) → IsText key → IsText value → Spells (added_code key value)
+unfolding added_code
+added_spells key value key_is value_is = spells_then
+    (spells_plain (text_code FAR key ++ (text_code NEAR value ++ (name_header (length key) (length value) ++ Call (pos 22) ∷ [])))
+    (text_spelt far_stands key (text_code NEAR value ++ (name_header (length key) (length value) ++ Call (pos 22) ∷ [])) key_is
+    (text_spelt near_stands value (name_header (length key) (length value) ++ Call (pos 22) ∷ []) value_is (
+      spelt_copy 1 refl 10 refl,
+      (
+        spelt_far 1 refl,
+        (
+          spelt_set 2 refl (pos (length key)) (fits_imm (length key) (text_small (length key) key_is.few)),
+          (
+            spelt_copy 3 refl 10 refl,
+            (
+              spelt_near 3 refl,
+              (
+                spelt_set 4 refl (pos (length value)) (fits_imm (length value) (text_small (length value) value_is.few)),
+                (spelt_call 22 (omega arith), tt),
+              ),
+            ),
+          ),
+        ),
+      ),
+    ))))
+    (spells_unless jumps.Equal 0 (pos 0) refl fits_zero ends_spells)
+
+with_added_spells : (added : Option AddedHeader) {block : Code} → FitsAdded IsText added → Spells block →
+    Spells (with_added added block)
+with_added_spells None fits x = x
+with_added_spells (Some h) fits x = spells_then (added_spells h.key h.value fits.0 fits.1) x
 
 output_spells : (what : Output) → FitsOutput IsText what → Spells (output_code what)
 unfolding output_code
@@ -136,7 +168,7 @@ unfolding action_code drop_code
 action_spells (action.Drop n) fits =
     spells_then (spells_plain (number_code 0 n) (number_spelt 0 n refl (omega (arith, fits.high_is)))) ends_spells
 action_spells (action.Tombstone out) fits = plain_spells out 6 fits.high_is (omega arith)
-action_spells (action.Output what added) fits = output_spells what fits.0
+action_spells (action.Output what added) fits = with_added_spells added fits.1 (output_spells what fits.0)
 
 -- ---- rules
 

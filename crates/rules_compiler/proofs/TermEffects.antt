@@ -37,7 +37,6 @@ use Rattle.std.proofs.lemmas.{List.take_all}
 use Rattle.std.proofs.Common.{unwrap_or, take}
 use Rattle.std.proofs.lemmas.Bool.{le-leb}
 use Rattle.rules_compiler.proofs.Walks.{On, run_list}
-use Rattle.rules_compiler.specs.Coverage.{term_has_code}
 use Rattle.rules_compiler.proofs.LayoutEffects.{layout_values}
 use Rattle.rules_compiler.proofs.Courses.{Values, bytes_few}
 use Rattle.rules_compiler.proofs.Courses.{bytes_of_found, entered, less_two}
@@ -246,15 +245,15 @@ module _ (input : Input) (given : IsInput input) (s : State) (ready : Ready inpu
       (then_values input (Plain (part_code p ++ decimal_list place count))
       (Unless jumps.Less 0 (Immediate (pos 1)) (Plain (change Sub 0 (pos 1) ∷ set 8 (pos 1) ∷ []))) s u o (ap On both) v)
 
-  pub term_values : (t : Term) → term_has_code t ≡ true → FitsTerm IsText t →
+  pub term_values : (t : Term) → FitsTerm IsText t →
       Values input (term_code t) s (term_value t input.given input.place)
   unfolding term_code answer_code state_after helper_among
-  term_values (term.Length p) has fits = count_values p fits
-  term_values (term.Number layout p place) has fits =
+  term_values (term.Length p) fits = count_values p fits
+  term_values (term.Number layout p place) fits =
       layout_values input given s ready layout p place fits.0 fits.1.high_is
-  term_values (term.Decimal p place count) has fits =
+  term_values (term.Decimal p place count) fits =
       decimal_values p place count fits.0 fits.1.0.high_is fits.1.1.low_is fits.1.1.high_is
-  term_values term.Offset has fits = list_values input (Call (pos 7) ∷ set 8 (pos 1) ∷ []) s _ (assumption ready) (refl, refl)
-  term_values term.Timestamp has fits = list_values input (Call (pos 8) ∷ set 8 (pos 1) ∷ []) s _ (assumption ready) (refl, refl)
-  term_values term.Partition has fits = list_values input (Call (pos 9) ∷ set 8 (pos 1) ∷ []) s _ (assumption ready) (refl, refl)
-  term_values term.Headers has fits = list_values input (Call (pos 10) ∷ set 8 (pos 1) ∷ []) s _ (assumption ready) (refl, refl)
+  term_values term.Offset fits = list_values input (Call (pos 7) ∷ set 8 (pos 1) ∷ []) s _ (assumption ready) (refl, refl)
+  term_values term.Timestamp fits = list_values input (Call (pos 8) ∷ set 8 (pos 1) ∷ []) s _ (assumption ready) (refl, refl)
+  term_values term.Partition fits = list_values input (Call (pos 9) ∷ set 8 (pos 1) ∷ []) s _ (assumption ready) (refl, refl)
+  term_values term.Headers fits = list_values input (Call (pos 10) ∷ set 8 (pos 1) ∷ []) s _ (assumption ready) (refl, refl)

@@ -1,7 +1,7 @@
 -- The image of rules: a load accepts it, and it means what the rules say.
 use Rattle.std.proofs.Common.{◌≡◌, ◌≢◌, ℕ, zero, suc, ◌+◌, ◌<◌, ◌≤◌, true, get_or, List, [], ◌∷◌, ◌++◌, length, Some, None, refl, sym, subst, arith}
 use Rattle.std.proofs.Common.{length-append, ◌∙◌}
-use Rattle.std.specs.List.{AllByRecursion, list_all}
+use Rattle.std.specs.List.{AllByRecursion}
 use Rattle.machine_spec.specs.declared.{instruction.Instruction.Instruction, limits.TheConstants.MAX_SLOTS}
 use Rattle.machine_spec.specs.declared.{helper.TheConstants.HELPERS, helper.Table.TheVariants.Three}
 use Rattle.machine_spec.specs.declared.instruction.Instruction.TheVariants.{Exit}
@@ -15,7 +15,7 @@ use Rattle.verifier_spec.proofs.Steps as steps
 use Rattle.bpf_isa.{specs.Spelling.HasRegisters, proofs.Reading.code_read}
 use Rattle.rules.specs.{Lines.Line, Outcomes.outcome_of_rules, Limits.IsText, Limits.FitsLine}
 use Rattle.rules_compiler.specs.Code.{Ends, Then, instructions}
-use Rattle.rules_compiler.specs.{Rules.body_of, Rules.code_of, Coverage.line_has_code, Programs.IsProgramOf}
+use Rattle.rules_compiler.specs.{Rules.body_of, Rules.code_of, Programs.IsProgramOf}
 use Rattle.rules_compiler.proofs.Images.{AreSpelt, spelt_both, image_of, placed_from, code_is, form_there}
 use Rattle.rules_compiler.proofs.Flows.{Flow, states_of, Closed, Begins, closed_both, end_holds, flow_closed, flow_begins}
 use Rattle.rules_compiler.proofs.Flows.{flow_length}
@@ -24,7 +24,7 @@ use Rattle.rules_compiler.proofs.Walks.{Course, Over, run, flow_leads, Comes, co
 use Rattle.rules_compiler.proofs.RuleFlows.{ended, body_flow, ended_proper, entry_proper, ended_exits}
 use Rattle.rules_compiler.proofs.{Outcomes.rules_end, SpeltRules.body_spells, Spelt.spelt_exit}
 
-module _ (lines : List Line) (has : list_all line_has_code lines ≡ true)
+module _ (lines : List Line)
     (fits : AllByRecursion (FitsLine IsText) lines) (few : length (instructions (code_of lines)) ≤ MAX_SLOTS) where
   abbrev code : List Instruction
   code = instructions (body_of lines) ++ Exit ∷ []
@@ -47,28 +47,28 @@ module _ (lines : List Line) (has : list_all line_has_code lines ≡ true)
       code_is (instructions (body_of lines) ++ Exit ∷ []) spelt (omega (arith, long)) short
 
   flow : Flow (body_of lines) entry_state ended
-  flow = body_flow lines has fits
+  flow = body_flow lines fits
 
   abbrev states : List Abstract
-  states = states_of (body_of lines) entry_state ended (body_flow lines has fits) ++ ended ∷ []
+  states = states_of (body_of lines) entry_state ended (body_flow lines fits) ++ ended ∷ []
 
   last : Begins (ended ∷ []) ended
   last = record { first = ended; is = refl; within = within_refl ended }
 
   closed : Closed (instructions (body_of lines) ++ Exit ∷ []) states []
   closed = closed_both (instructions (body_of lines)) (Exit ∷ [])
-      (states_of (body_of lines) entry_state ended (body_flow lines has fits)) (ended ∷ []) []
-      (flow_closed (body_of lines) entry_state ended (body_flow lines has fits) (ended ∷ []) entry_proper last)
+      (states_of (body_of lines) entry_state ended (body_flow lines fits)) (ended ∷ []) []
+      (flow_closed (body_of lines) entry_state ended (body_flow lines fits) (ended ∷ []) entry_proper last)
       (end_holds ended [] ended_exits ended_proper, tt)
 
   annotated : IsAnnotation HELPERS (placed_from 0 (instructions (body_of lines) ++ Exit ∷ [])) (claims_of states)
   annotated =
       let long = length-append (instructions (body_of lines)) (Exit ∷ []) in
-      let states_long = length-append (states_of (body_of lines) entry_state ended (body_flow lines has fits)) (ended ∷ []) in
+      let states_long = length-append (states_of (body_of lines) entry_state ended (body_flow lines fits)) (ended ∷ []) in
       annotation (instructions (body_of lines) ++ Exit ∷ []) states
       (image_of (instructions (body_of lines) ++ Exit ∷ []))
-      (omega (arith, long, states_long, flow_length (body_of lines) entry_state ended (body_flow lines has fits)))
-      closed is_code (flow_begins (body_of lines) entry_state ended (body_flow lines has fits) (ended ∷ []) last)
+      (omega (arith, long, states_long, flow_length (body_of lines) entry_state ended (body_flow lines fits)))
+      closed is_code (flow_begins (body_of lines) entry_state ended (body_flow lines fits) (ended ∷ []) last)
 
   abbrev program : Program
   program = program_of (image_of (instructions (body_of lines) ++ Exit ∷ [])) Three
@@ -103,13 +103,13 @@ module _ (lines : List Line) (has : list_all line_has_code lines ≡ true)
 
     whole_run : run input (Then (body_of lines) Ends) (entry input) ≡ Over (outcome_of_rules lines input)
     unfolding code_of
-    whole_run = rules_end input given lines has fits
+    whole_run = rules_end input given lines fits
 
     means : (n : ℕ) × Means program input (outcome_of_rules lines input) n
     means =
         subst (λ (c : Course). Comes program input step_on stops (0 + length (instructions (body_of lines) ++ Exit ∷ [])) c) whole_run
         (comes program input step_on stops (Then (body_of lines) Ends) 0 (entry input)
-        (flow_leads (body_of lines) entry_state ended (body_flow lines has fits), tt) refl
+        (flow_leads (body_of lines) entry_state ended (body_flow lines fits), tt) refl
         (λ k i at. subst (λ (slot : ℕ). form_at program.image slot ≡ Some i) (omega arith)
         (form_there (instructions (body_of lines) ++ Exit ∷ []) spelt k i at)))
 

@@ -2,12 +2,12 @@
 use Rattle.std.specs.Prelude.{ℕ, ◌+◌, ◌-◌, length, ℤ, pos, List, [], ◌∷◌, ◌++◌, Option, Some, None}
 use Rattle.machine_spec.specs.declared.instruction.{Instruction.Instruction, Instruction.TheVariants.Call}
 use Rattle.machine_spec.specs.declared.operation.Operation.TheVariants.{Add, Sub, Mod}
-use Rattle.machine_spec.specs.declared.operation.Test.TheVariants.{GreaterOrEqual}
+use Rattle.machine_spec.specs.declared.operation.Test.TheVariants.{Equal, GreaterOrEqual}
 use Rattle.machine_spec.specs.declared.instruction.Source.TheVariants.{Immediate}
-use Rattle.rules.specs.declared.{rule.Part.Part, rule.Output.Output, rule.Action.Action}
+use Rattle.rules.specs.declared.{rule.Part.Part, rule.Output.Output, rule.AddedHeader.AddedHeader, rule.Action.Action}
 use Rattle.rules.specs.declared.rule.Output.TheVariants as output
 use Rattle.rules.specs.declared.rule.Action.TheVariants as action
-use Rattle.rules_compiler.specs.declared.pieces.TheConstants.{ANSWER, PART, FRAME, NEAR}
+use Rattle.rules_compiler.specs.declared.pieces.TheConstants.{ANSWER, PART, FRAME, NEAR, FAR}
 use Rattle.rules_compiler.specs.Code.{Code, Plain, Ends, Then, Unless}
 use Rattle.rules_compiler.specs.Pieces.{set, copy, change, number_code, text_code, part_code}
 
@@ -53,7 +53,22 @@ output_code (output.Hashed p count) = hashed_code p count
 output_code (output.Cut out p cut) = cut_code out p cut.from cut.to
 output_code (output.Changed out from to text) = changed_code out from to text
 
+-- r1 to r4 name two texts in the stack
+abbrev pub name_header : (key_size value_size : ℕ) → List Instruction
+name_header key_size value_size = copy 1 FRAME ∷ change Add 1 FAR ∷ set 2 (pos key_size) ∷ copy 3 FRAME
+    ∷ change Add 3 NEAR ∷ set 4 (pos value_size) ∷ []
+
+-- a header is added to what is output behind this; the run ends with the answer of the helper where it is not added
+unfoldable pub added_code : (key value : List ℕ) → Code
+added_code key value = Then (Plain (text_code FAR key ++ (text_code NEAR value
+    ++ (name_header (length key) (length value) ++ Call (pos 22) ∷ [])))) (Unless Equal ANSWER (Immediate (pos 0)) Ends)
+
+-- code with a header that is added before it, if one is
+abbrev pub with_added : Option AddedHeader → Code → Code
+with_added (Some h) block = Then (added_code h.key h.value) block
+with_added None block = block
+
 unfoldable pub action_code : Action → Code
 action_code (action.Drop number) = drop_code number
 action_code (action.Tombstone out) = plain_code out (pos 6)
-action_code (action.Output what added) = output_code what
+action_code (action.Output what added) = with_added added (output_code what)

@@ -5,5 +5,4 @@ pub mod Terms
 pub mod Tests
 pub mod Actions
 pub mod Rules
-pub mod Coverage
 pub mod Programs

@@ -1,15 +1,15 @@
 //! Actions: each ends the run.
 
 ghost use Rattle.std.specs.Prelude.{◌≡◌, ◌≤◌, ◌++◌, OnOk};
-ghost use Rattle.rules.specs.Limits.{FitsText, FitsPart, FitsCut, FitsOutput, FitsAction};
+ghost use Rattle.rules.specs.Limits.{FitsText, FitsPart, FitsCut, FitsOutput, FitsAdded, FitsAction};
 ghost use Rattle.rules_compiler.specs.Code.{instructions};
 ghost use Rattle.rules_compiler.specs.Actions as definitions;
 
 use crate::pieces::{
-    ANSWER, FRAME, NEAR, PART, change, copy, put_number, put_part, put_text, set, skip_if,
+    ANSWER, FAR, FRAME, NEAR, PART, change, copy, put_number, put_part, put_text, set, skip_if,
 };
 use machine_spec::{Instruction, Operation, Test};
-use rules::{Action, Cut, Output, Part, Text};
+use rules::{Action, AddedHeader, Cut, Output, Part, Text};
 use std::alloc::AllocError;
 
 #[tactic(auto, unfolding(crate::specs::Actions::drop_code))]
@@ -131,7 +131,7 @@ fn put_changed(
     requires text { FitsText text.now }
     ensures { OnOk result (code.new.items ≡ code.old.items ++ instructions (definitions.changed_code out from to text.now)) }
 {
-    put_text(code, &text.bytes)?;
+    put_text(code, NEAR, &text.bytes)?;
     code.extend_from_slice(&[
         set(1, out as i32),
         set(2, from as i32),
@@ -157,6 +157,28 @@ fn put_output(code: &mut Vec<Instruction>, output: &Output) -> Result<(), AllocE
     }
 }
 
+/// A header that is added to what is output behind this; where it is not, the run ends with the code of that.
+#[tactic(auto, unfolding(crate::specs::Actions::added_code))]
+fn put_added(code: &mut Vec<Instruction>, added: &AddedHeader) -> Result<(), AllocError>
+    requires key { FitsText added.now.key }
+    requires value { FitsText added.now.value }
+    ensures { OnOk result (code.new.items ≡ code.old.items ++ instructions (definitions.added_code added.now.key added.now.value)) }
+{
+    put_text(code, FAR, &added.key.bytes)?;
+    put_text(code, NEAR, &added.value.bytes)?;
+    code.extend_from_slice(&[
+        copy(1, FRAME),
+        change(Operation::Add, 1, i32::from(FAR)),
+        set(2, added.key.bytes.len() as i32),
+        copy(3, FRAME),
+        change(Operation::Add, 3, i32::from(NEAR)),
+        set(4, added.value.bytes.len() as i32),
+        Instruction::Call(22),
+        skip_if(Test::Equal, ANSWER, 0, 1),
+        Instruction::Exit,
+    ])
+}
+
 /// An action.
 #[tactic(auto, unfolding(crate::specs::Actions::action_code))]
 pub fn put_action(code: &mut Vec<Instruction>, action: &Action) -> Result<(), AllocError>
@@ -166,6 +188,10 @@ pub fn put_action(code: &mut Vec<Instruction>, action: &Action) -> Result<(), Al
     match action {
         Action::Drop(number) => put_drop(code, *number),
         Action::Tombstone(out) => put_plain(code, *out, 6),
-        Action::Output(output, _) => put_output(code, output),
+        Action::Output(output, None) => put_output(code, output),
+        Action::Output(output, Some(added)) => {
+            put_added(code, added)?;
+            put_output(code, output)
+        }
     }
 }

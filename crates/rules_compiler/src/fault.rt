@@ -11,9 +11,6 @@ use thiserror::Error;
 /// Why rules are not compiled. A rule is named by its number, from 1.
 #[derive(Clone, Copy, Debug, PartialEq, Eq, Drop, Error)]
 pub enum CompileFault {
-    /// This rule adds a header, of which no program is made.
-    #[error("rule {0}: E10 Header")]
-    Header(usize),
     /// With this rule the image would have more than `MAX_SLOTS` slots.
     #[error("rule {0}: E9 Slots")]
     Slots(usize),

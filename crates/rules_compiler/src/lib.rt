@@ -9,7 +9,6 @@
 mod actions;
 mod blocks;
 mod conditions;
-mod coverage;
 mod fault;
 mod pieces;
 mod program;

@@ -1,6 +1,6 @@
 //! The smallest pieces of code, and those that name a part of the record.
 
-ghost use Rattle.std.specs.Prelude.{◌≡◌, ◌≤◌, ◌+ℤ◌, ◌*◌, ◌++◌, length, OnOk, pos};
+ghost use Rattle.std.specs.Prelude.{◌≡◌, ◌≤◌, ◌≤ℤ◌, ◌+ℤ◌, ◌*◌, ◌++◌, length, OnOk, pos};
 ghost use Rattle.rules.specs.Limits.{FitsText, FitsPart};
 ghost use Rattle.rules_compiler.specs.Pieces as definitions;
 
@@ -28,6 +28,9 @@ pub const FRAME: u8 = 10;
 
 /// A place of the stack, counted from its end: where a text begins.
 pub const NEAR: i16 = -256;
+
+/// The same of a text that stands beside another one: the stack's begin.
+pub const FAR: i16 = -512;
 
 /// A register gets a number.
 pub fn set(register: u8, number: i32) -> Instruction
@@ -136,31 +139,34 @@ fn word_count(length: usize) -> usize
 }
 
 /// Where a word of a text stands, counted from the stack's end.
-fn offset_of(k: usize) -> i16
-    requires { k ≤ 63 }
-    ensures { result ≡ NEAR +ℤ pos (4 * k) }
+fn offset_of(start: i16, k: usize) -> i16
+    requires start { start ≤ℤ NEAR }
+    requires k { k ≤ 63 }
+    ensures { result ≡ start +ℤ pos (4 * k) }
 {
-    NEAR + (4 * k) as i16
+    start + (4 * k) as i16
 }
 
 /// The store of four bytes of a text.
-fn word_store(text: &[u8], k: usize) -> Instruction
+fn word_store(start: i16, text: &[u8], k: usize) -> Instruction
+    requires start { start ≤ℤ NEAR }
     requires few { length text.now ≤ 255 }
     requires k { k ≤ 63 }
-    ensures { result ≡ definitions.word_store NEAR text.now k }
+    ensures { result ≡ definitions.word_store start text.now k }
 {
     let word = Source::Immediate(word_at(text, 4 * k));
-    Instruction::Store(Size::Word, FRAME, offset_of(k), word)
+    Instruction::Store(Size::Word, FRAME, offset_of(start, k), word)
 }
 
-/// A text in the stack: four bytes at a time, with zeros behind its end.
+/// A text in the stack from a place on: four bytes at a time, with zeros behind its end.
 #[tactic(auto, unfolding(crate::specs::Pieces::words_code))]
-pub fn put_text(code: &mut Vec<Instruction>, text: &[u8]) -> Result<(), AllocError>
-    requires { length text.now ≤ 255 }
-    ensures { OnOk result (code.new.items ≡ code.old.items ++ definitions.text_code NEAR text.now) }
+pub fn put_text(code: &mut Vec<Instruction>, start: i16, text: &[u8]) -> Result<(), AllocError>
+    requires start { start ≤ℤ NEAR }
+    requires few { length text.now ≤ 255 }
+    ensures { OnOk result (code.new.items ≡ code.old.items ++ definitions.text_code start text.now) }
 {
     for k in 0..word_count(text.len()) {
-        code.push(word_store(text, k))?;
+        code.push(word_store(start, text, k))?;
     }
     Ok(())
 }
@@ -172,7 +178,7 @@ fn put_header(code: &mut Vec<Instruction>, key: &Text) -> Result<(), AllocError>
     requires { FitsText key.now }
     ensures { OnOk result (code.new.items ≡ code.old.items ++ definitions.part_code (Part.Header key.now)) }
 {
-    put_text(code, &key.bytes)?;
+    put_text(code, NEAR, &key.bytes)?;
     code.extend_from_slice(&[
         copy(1, FRAME),
         change(Operation::Add, 1, i32::from(NEAR)),

@@ -1,19 +1,17 @@
 //! From rules to an image.
 
-ghost use Rattle.std.specs.Prelude.{◌≡◌, ◌+◌, ◌≤◌, ◌++◌, true, length, IfOk, OnOk, All};
-ghost use Rattle.std.specs.List.{flat_map, list_all, AllByRecursion};
+ghost use Rattle.std.specs.Prelude.{◌≡◌, ◌+◌, ◌≤◌, ◌++◌, length, IfOk, OnOk, All};
+ghost use Rattle.std.specs.List.{flat_map, AllByRecursion};
 ghost use Rattle.bpf_isa.specs.Spelling.{spelling, HasRegisters};
 ghost use Rattle.rules.specs.Limits.{FitsText, FitsLine, AreRules};
 ghost use Rattle.rules.specs.Lines.{line_of, lines_of};
 ghost use Rattle.rules_compiler.specs.Code.{instructions};
-ghost use Rattle.rules_compiler.specs.Coverage.{line_has_code};
 ghost use Rattle.rules_compiler.specs.Programs.{IsProgramOf};
 ghost use Rattle.rules_compiler.specs.Rules as definitions;
 
 use crate::actions::put_action;
 use crate::blocks::put_unless;
 use crate::conditions::put_condition;
-use crate::coverage::rule_has_code;
 use crate::fault::{CompileFault, Refusal, at_rule};
 use crate::pieces::{ANSWER, LENGTH, VALUE, copy, set};
 use crate::text_bytes::rules_have_texts;
@@ -52,12 +50,8 @@ fn add_rule(
     requires fits { FitsLine FitsText (line_of rule.now) }
     requires few { length code.old.items + 2 ≤ MAX_SLOTS }
     ensures code { OnOk result (code.new.items ≡ code.old.items ++ instructions (definitions.line_code (line_of rule.now))) }
-    ensures has { OnOk result (line_has_code (line_of rule.now) ≡ true) }
     ensures few { OnOk result (length code.new.items + 2 ≤ MAX_SLOTS) }
 {
-    if !rule_has_code(rule) {
-        return Err(CompileFault::Header(number));
-    }
     match put_rule(alloc, code, rule) {
         Ok(()) if code.len() <= MAX_SLOTS - 2 => Ok(()),
         Ok(()) => Err(CompileFault::Slots(number)),
@@ -70,7 +64,6 @@ fn add_rules(alloc: Global, code: &mut Vec<Instruction>, rules: &[Rule]) -> Resu
     requires fits { AllByRecursion (FitsLine FitsText) (lines_of rules.now) }
     requires few { length code.old.items + 2 ≤ MAX_SLOTS }
     ensures code { OnOk result (code.new.items ≡ code.old.items ++ instructions (definitions.lines_code (lines_of rules.now))) }
-    ensures has { OnOk result (list_all line_has_code (lines_of rules.now) ≡ true) }
     ensures few { OnOk result (length code.new.items + 2 ≤ MAX_SLOTS) }
 {
     for k in 0..rules.len() {
@@ -84,7 +77,6 @@ fn add_rules(alloc: Global, code: &mut Vec<Instruction>, rules: &[Rule]) -> Resu
 fn code_of(alloc: Global, rules: &[Rule]) -> Result<Vec<Instruction>, CompileFault>
     requires { AllByRecursion (FitsLine FitsText) (lines_of rules.now) }
     ensures code { IfOk result (λ code. code.items ≡ instructions (definitions.code_of (lines_of rules.now))) }
-    ensures has { IfOk result (λ code. list_all line_has_code (lines_of rules.now) ≡ true) }
     ensures few { IfOk result (λ code. length code.items ≤ MAX_SLOTS) }
 {
     let mut code = Vec::new(alloc);

@@ -125,7 +125,7 @@ pub fn put_has(
 {
     let searches = searches(alloc, text.bytes.len())?;
     put_part(code, part)?;
-    put_text(code, &text.bytes)?;
+    put_text(code, NEAR, &text.bytes)?;
     code.push(set(TRUTH, 0))?;
     code.extend_from_slice(&searches)?;
     Ok(())

@@ -63,7 +63,7 @@ fn put_text_test(
     ensures { OnOk result (code.new.items ≡ code.old.items ++ instructions (definitions.text_test_code part.now text.now how number)) }
 {
     put_part(code, part)?;
-    put_text(code, &text.bytes)?;
+    put_text(code, NEAR, &text.bytes)?;
     code.extend_from_slice(&stands(text.bytes.len()))?;
     code.extend_from_slice(&[skip_if(how, ANSWER, number as i32, 1), set(TRUTH, 0)])
 }

@@ -1,7 +1,6 @@
 use Rattle.std.proofs.Common.{◌≡◌, ◌++◌}
-use Rattle.rules_compiler.specs.declared.pieces.TheConstants.{NEAR}
 use Rattle.rules_compiler.specs.Pieces.{words_code}
 use Rattle.rules_compiler.proofs.pieces.put_text.Given as goal
 
 abbrev pub invariant-loop-k : goal.invariant-loop-k
-invariant-loop-k l = l.code.items ≡ l.initial.code.items ++ words_code NEAR l.text l.k
+invariant-loop-k l = l.code.items ≡ l.initial.code.items ++ words_code l.fn.start l.text l.k

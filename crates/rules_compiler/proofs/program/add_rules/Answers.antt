@@ -1,6 +1,6 @@
 use Rattle.std.proofs.Common.{rules, ◌≡◌, ◌<◌, length, get_or, arith}
 use Rattle.rules.specs.Limits.{FitsText, FitsLine}
-use Rattle.rules_compiler.proofs.Loops.{next_rule, code_step, has_step, fits_step, code_end}
+use Rattle.rules_compiler.proofs.Loops.{next_rule, code_step, fits_step, code_end}
 use Rattle.rules_compiler.proofs.program.add_rules.Goals as goal
 
 pub loop-k-preserved : goal.loop-k-preserved
@@ -11,7 +11,6 @@ loop-k-preserved c =
     let is = next_rule c.args.rules.now c.loop-k.k c.index-rules-k.result low at in
     record {
       code = code_step _ _ _ _ _ _ is c.loop-k.invariant.code c.in_ok-add_rule.ensures.code;
-      has = has_step _ _ _ _ is c.loop-k.invariant.has c.in_ok-add_rule.ensures.has;
       fits = fits_step (FitsLine FitsText) _ _ _ is c.loop-k.invariant.fits;
       few = c.in_ok-add_rule.ensures.few;
     }
