@@ -26,3 +26,4 @@ pub mod SpeltRules
 pub mod Whole
 pub mod Loops
 pub mod Words
+pub mod Lengths

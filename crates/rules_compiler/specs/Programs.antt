@@ -5,6 +5,7 @@ use Rattle.machine_spec.specs.{Image.program_of, Machine.Input, Meaning.Means}
 use Rattle.verifier_spec.specs.{StandsFor.IsInput, Loading.IsAccepted}
 use Rattle.program_file.specs.{declared.file.ProgramFile.ProgramFile, Spelling.fits}
 use Rattle.rules.specs.{Lines.Line, Outcomes.outcome_of_rules, Reading.rules_of}
+use Rattle.rules_compiler.specs.Faults.{AreRefused}
 use Rattle.rules_compiler.specs.declared.text.TextFault.{TextFault}
 use Rattle.rules_compiler.specs.declared.text.TextFault.TheVariants as fault
 
@@ -23,10 +24,10 @@ pub record IsTextProgram (text : List ℕ) (file : ProgramFile) : Type 0 where
   pub fits : IsTrue (fits file)
   pub program : IsProgramOf lines file.image
 
--- A text gives this program, or is refused with the fault of its first faulty line, or its rules are too long for a
--- program; nothing is said where memory ran out.
+-- A text gives this program, or is refused with the fault of its first faulty line, or with that of the first rule with
+-- which its program is too long; nothing is said where memory ran out.
 abbrev pub CompilesText : List ℕ → Result ProgramFile TextFault → Type 0
 CompilesText text (Ok file) = IsTextProgram text file
 CompilesText text (Err (fault.Line why)) = rules_of text ≡ Err why
-CompilesText text (Err (fault.Rules why)) = (lines : List Line) × (rules_of text ≡ Ok lines)
+CompilesText text (Err (fault.Rules why)) = (lines : List Line) × (rules_of text ≡ Ok lines) × AreRefused lines why
 CompilesText text (Err fault.Memory) = ⊤

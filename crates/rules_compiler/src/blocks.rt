@@ -1,6 +1,7 @@
 //! Blocks that may be left out.
 
-ghost use Rattle.std.specs.Prelude.{◌≡◌, ◌++◌, ◌∷◌, pos, length, OnOk};
+ghost use Rattle.std.specs.Prelude.{◌≡◌, ◌++◌, ◌∷◌, pos, length, OnOk, IfErr};
+ghost use Rattle.rules_compiler.specs.Faults.{IsTooLong};
 
 use crate::fault::Refusal;
 use crate::pieces::{TRUTH, skip_if};
@@ -12,7 +13,8 @@ pub fn put_unless(
     test: Test,
     block: &[Instruction],
 ) -> Result<(), Refusal>
-    ensures { OnOk result (code.new.items ≡ code.old.items ++ (Instruction.JumpIf Width.Bits64 test TRUTH (Source.Immediate (pos 0)) (pos (length block.now)) ∷ block.now)) }
+    ensures code { OnOk result (code.new.items ≡ code.old.items ++ (Instruction.JumpIf Width.Bits64 test TRUTH (Source.Immediate (pos 0)) (pos (length block.now)) ∷ block.now)) }
+    ensures long { IfErr result (IsTooLong block.now) }
 {
     if block.len() > MAX_SLOTS {
         return Err(Refusal::Far);

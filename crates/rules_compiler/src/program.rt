@@ -1,12 +1,14 @@
 //! From rules to an image.
 
-ghost use Rattle.std.specs.Prelude.{◌≡◌, ◌+◌, ◌≤◌, ◌++◌, length, IfOk, OnOk, All};
+ghost use Rattle.std.specs.Prelude.{◌≡◌, ◌+◌, ◌≤◌, ◌++◌, length, IfOk, OnOk, IfErr, All};
 ghost use Rattle.std.specs.List.{flat_map, AllByRecursion};
 ghost use Rattle.bpf_isa.specs.Spelling.{spelling, HasRegisters};
 ghost use Rattle.rules.specs.Limits.{FitsText, FitsLine, AreRules};
 ghost use Rattle.rules.specs.Lines.{line_of, lines_of};
 ghost use Rattle.rules_compiler.specs.Code.{instructions};
+ghost use Rattle.rules_compiler.specs.Faults.{IsTooLong, IsRefusedAt, AreRefusedAfter, AreRefused};
 ghost use Rattle.rules_compiler.specs.Programs.{IsProgramOf};
+ghost use Rattle.rules_compiler.specs.declared.fault.CompileFault.TheVariants.{Memory};
 ghost use Rattle.rules_compiler.specs.Rules as definitions;
 
 use crate::actions::put_action;
@@ -24,7 +26,8 @@ use std::alloc::Global;
 #[tactic(auto, unfolding(crate::specs::Rules::line_code))]
 fn put_rule(alloc: Global, code: &mut Vec<Instruction>, rule: &Rule) -> Result<(), Refusal>
     requires { FitsLine FitsText (line_of rule.now) }
-    ensures { OnOk result (code.new.items ≡ code.old.items ++ instructions (definitions.line_code (line_of rule.now))) }
+    ensures code { OnOk result (code.new.items ≡ code.old.items ++ instructions (definitions.line_code (line_of rule.now))) }
+    ensures long { IfErr result (IsTooLong (instructions (definitions.line_code (line_of rule.now)))) }
 {
     match &rule.condition {
         Some(condition) => {
@@ -51,6 +54,7 @@ fn add_rule(
     requires few { length code.old.items + 2 ≤ MAX_SLOTS }
     ensures code { OnOk result (code.new.items ≡ code.old.items ++ instructions (definitions.line_code (line_of rule.now))) }
     ensures few { OnOk result (length code.new.items + 2 ≤ MAX_SLOTS) }
+    ensures refused { IfErr result (IsRefusedAt (length code.old.items + length (instructions (definitions.line_code (line_of rule.now)))) number) }
 {
     match put_rule(alloc, code, rule) {
         Ok(()) if code.len() <= MAX_SLOTS - 2 => Ok(()),
@@ -65,6 +69,7 @@ fn add_rules(alloc: Global, code: &mut Vec<Instruction>, rules: &[Rule]) -> Resu
     requires few { length code.old.items + 2 ≤ MAX_SLOTS }
     ensures code { OnOk result (code.new.items ≡ code.old.items ++ instructions (definitions.lines_code (lines_of rules.now))) }
     ensures few { OnOk result (length code.new.items + 2 ≤ MAX_SLOTS) }
+    ensures refused { IfErr result (AreRefusedAfter (length code.old.items) (lines_of rules.now)) }
 {
     for k in 0..rules.len() {
         add_rule(alloc, code, &rules[k], k + 1)?;
@@ -78,6 +83,7 @@ fn code_of(alloc: Global, rules: &[Rule]) -> Result<Vec<Instruction>, CompileFau
     requires { AllByRecursion (FitsLine FitsText) (lines_of rules.now) }
     ensures code { IfOk result (λ code. code.items ≡ instructions (definitions.code_of (lines_of rules.now))) }
     ensures few { IfOk result (λ code. length code.items ≤ MAX_SLOTS) }
+    ensures refused { IfErr result (AreRefused (lines_of rules.now)) }
 {
     let mut code = Vec::new(alloc);
     code.extend_from_slice(&[copy(LENGTH, 2), copy(VALUE, 1)])?;
@@ -89,7 +95,8 @@ fn code_of(alloc: Global, rules: &[Rule]) -> Result<Vec<Instruction>, CompileFau
 /// The image of code.
 fn image_of(alloc: Global, code: &[Instruction]) -> Result<Bytes, CompileFault>
     requires { All HasRegisters code.now }
-    ensures { IfOk result (λ image. image ≡ flat_map spelling code.now) }
+    ensures image { IfOk result (λ image. image ≡ flat_map spelling code.now) }
+    ensures memory { IfErr result (λ fault. fault ≡ Memory) }
 {
     let mut image = Vec::new(alloc);
     for instruction in code {
@@ -98,10 +105,12 @@ fn image_of(alloc: Global, code: &[Instruction]) -> Result<Bytes, CompileFault>
     Ok(Bytes::from_vec(image)?)
 }
 
-/// The image of rules, which runs by helper table 3.
+/// The image of rules, which runs by helper table 3. It fails with the number of the first rule with which the image
+/// would have too many slots.
 pub fn compile(alloc: Global, rules: &[Rule]) -> Result<Bytes, CompileFault>
     requires { AreRules FitsText (lines_of rules.now) }
-    ensures { IfOk result (λ image. IsProgramOf (lines_of rules.now) image) }
+    ensures program { IfOk result (λ image. IsProgramOf (lines_of rules.now) image) }
+    ensures refused { IfErr result (AreRefused (lines_of rules.now)) }
 {
     rules_have_texts(rules);
     let code = code_of(alloc, rules)?;

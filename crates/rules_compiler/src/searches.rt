@@ -6,11 +6,10 @@ ghost use Rattle.rules.specs.Limits.{FitsText, FitsPart};
 ghost use Rattle.rules_compiler.specs.Code.{instructions};
 ghost use Rattle.rules_compiler.specs.Tests as definitions;
 
-use crate::fault::Refusal;
 use crate::pieces::{
     ANSWER, FRAME, NEAR, PART, TRUTH, change, copy, put_part, put_text, set, skip_if,
 };
-use machine_spec::{Instruction, MAX_SLOTS, Operation, Test};
+use machine_spec::{Instruction, Operation, Test};
 use rules::{Part, Text};
 use std::alloc::{AllocError, Global};
 
@@ -62,22 +61,20 @@ fn last_search(alloc: Global, size: usize, place: usize) -> Result<Vec<Instructi
 }
 
 /// A search that so many others follow.
-#[tactic(auto, unfolding(crate::specs::Tests::searches_code))]
+#[tactic(auto, using(crate::proofs::Lengths::searches_length), unfolding(crate::specs::Tests::searches_code))]
 fn earlier_search(
     alloc: Global,
     size: usize,
     place: usize,
     left: usize,
     later: &[Instruction],
-) -> Result<Vec<Instruction>, Refusal>
+) -> Result<Vec<Instruction>, AllocError>
     requires size { size ≤ 255 }
     requires place { place ≤ 65536 }
+    requires left { left ≤ OTHERS }
     requires later { later.now ≡ instructions (definitions.searches_code size (place + PLACES) left) }
     ensures { IfOk result (λ code. code.items ≡ instructions (definitions.searches_code size place (suc left))) }
 {
-    if later.len() > MAX_SLOTS {
-        return Err(Refusal::Far);
-    }
     let mut code = Vec::new(alloc);
     code.extend_from_slice(&[
         copy(1, PART),
@@ -100,7 +97,7 @@ fn earlier_search(
 }
 
 /// All searches.
-fn searches(alloc: Global, size: usize) -> Result<Vec<Instruction>, Refusal>
+fn searches(alloc: Global, size: usize) -> Result<Vec<Instruction>, AllocError>
     requires { size ≤ 255 }
     ensures { IfOk result (λ code. code.items ≡ instructions (definitions.searches_code size 0 OTHERS)) }
 {
@@ -118,7 +115,7 @@ pub fn put_has(
     code: &mut Vec<Instruction>,
     part: &Part,
     text: &Text,
-) -> Result<(), Refusal>
+) -> Result<(), AllocError>
     requires part { FitsPart FitsText part.now }
     requires text { FitsText text.now }
     ensures { OnOk result (code.new.items ≡ code.old.items ++ instructions (definitions.has_code part.now text.now)) }
@@ -127,6 +124,5 @@ pub fn put_has(
     put_part(code, part)?;
     put_text(code, NEAR, &text.bytes)?;
     code.push(set(TRUTH, 0))?;
-    code.extend_from_slice(&searches)?;
-    Ok(())
+    code.extend_from_slice(&searches)
 }

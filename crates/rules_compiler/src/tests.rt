@@ -1,8 +1,9 @@
 //! Tests: r8 gets whether one holds.
 
-ghost use Rattle.std.specs.Prelude.{◌≡◌, ◌≤◌, ◌++◌, length, OnOk};
+ghost use Rattle.std.specs.Prelude.{◌≡◌, ◌≤◌, ◌++◌, length, OnOk, IfErr};
 ghost use Rattle.rules.specs.Limits.{FitsText, FitsPart, FitsTerm, FitsTest};
 ghost use Rattle.rules_compiler.specs.Code.{instructions};
+ghost use Rattle.rules_compiler.specs.Faults.{IsTooLong};
 ghost use Rattle.rules_compiler.specs.Tests as definitions;
 
 use crate::blocks::put_unless;
@@ -106,7 +107,8 @@ fn put_compare(
     number: u64,
 ) -> Result<(), Refusal>
     requires { FitsTerm FitsText term.now }
-    ensures { OnOk result (code.new.items ≡ code.old.items ++ instructions (definitions.compare_code term.now how number)) }
+    ensures code { OnOk result (code.new.items ≡ code.old.items ++ instructions (definitions.compare_code term.now how number)) }
+    ensures long { IfErr result (IsTooLong (instructions (definitions.compare_code term.now how number))) }
 {
     put_term(code, term)?;
     let mut block = Vec::new(alloc);
@@ -118,7 +120,8 @@ fn put_compare(
 #[tactic(auto, unfolding(crate::specs::Tests::test_code))]
 pub fn put_test(alloc: Global, code: &mut Vec<Instruction>, test: &Test) -> Result<(), Refusal>
     requires { FitsTest FitsText test.now }
-    ensures { OnOk result (code.new.items ≡ code.old.items ++ instructions (definitions.test_code test.now)) }
+    ensures code { OnOk result (code.new.items ≡ code.old.items ++ instructions (definitions.test_code test.now)) }
+    ensures long { IfErr result (IsTooLong (instructions (definitions.test_code test.now))) }
 {
     match test {
         Test::Null(part) => put_length_test(code, part, 1)?,

@@ -15,10 +15,10 @@ image_of-requires c k d low =
     let few = subst (λ (l : List Instruction). length l ≤ MAX_SLOTS) c.in_ok-code.ensures.code c.in_ok-code.ensures.few in
     registers lines c.rules_have_texts.ensures few c.deref.result.now same k d low
 
-pub returns : goal.returns
-returns c =
+pub returns-clause-program : goal.returns-clause-program
+returns-clause-program c =
     let lines = lines_of c.args.rules.now in
     let same = c.deref.ensures.value ∙ c.in_ok-code.ensures.code in
-    let image = c.in_ok-image.ensures ∙ ap (λ (l : List Instruction). flat_map spelling l) same in
+    let image = c.in_ok-image.ensures.image ∙ ap (λ (l : List Instruction). flat_map spelling l) same in
     let few = subst (λ (l : List Instruction). length l ≤ MAX_SLOTS) c.in_ok-code.ensures.code c.in_ok-code.ensures.few in
     subst (IsProgramOf lines) (sym image) (is_program lines c.rules_have_texts.ensures few)

@@ -1,0 +1,167 @@
+-- How long code is, and that code is too long of which a piece is.
+use Rattle.std.proofs.Common.{◌≡◌, ℕ, zero, suc, ◌+◌, ◌-◌, ◌*◌, ◌<◌, ◌≤◌, List, [], ◌∷◌, ◌++◌, length, take, drop, ap, ◌∙◌, sym, subst, arith}
+use Rattle.std.proofs.Common.{length-append, refl, pos, Some}
+use Rattle.machine_spec.specs.declared.{instruction.Instruction.Instruction, limits.TheConstants.MAX_SLOTS}
+use Rattle.machine_spec.specs.declared.{instruction.Source.Source, operation.Test.Test}
+use Rattle.rules.specs.declared.rule.Rule.{Rule}
+use Rattle.machine_spec.specs.declared.instruction.{Source.TheVariants.Immediate, Instruction.TheVariants.Exit}
+use Rattle.machine_spec.specs.declared.operation.Operation.TheVariants.{Xor}
+use Rattle.machine_spec.specs.declared.operation.Test.TheVariants as jumps
+use Rattle.rules.specs.declared.{rule.Term.Term, rule.Comparison.Comparison, rule.Test.Test as Tests, rule.Action.Action}
+use Rattle.rules.specs.declared.rule.Test.TheVariants as test
+use Rattle.rules.specs.Lines.{Formula, Single, Negated, Both, Either, Line, line_of, lines_of}
+use Rattle.rules_compiler.specs.declared.{fault.CompileFault.CompileFault, fault.Refusal.Refusal}
+use Rattle.rules_compiler.specs.declared.fault.CompileFault.TheVariants as fault
+use Rattle.rules_compiler.specs.declared.fault.Refusal.TheVariants as refusal
+use Rattle.rules_compiler.specs.Code.{Code, Plain, Then, Unless, instructions}
+use Rattle.rules_compiler.specs.declared.pieces.TheConstants.{ANSWER, TRUTH}
+use Rattle.rules_compiler.specs.{Pieces.set, Pieces.change, Terms.term_code, Actions.action_code}
+use Rattle.rules_compiler.specs.Faults.{IsTooLong, IsRefusedAt, IsFirstAfter, AreRefusedAfter, AreRefused}
+use Rattle.rules_compiler.specs.Tests.{comparing_code, compare_code, test_code, searches_code}
+use Rattle.rules_compiler.specs.Rules.{condition_code, line_code, lines_code, body_of, code_of}
+use Rattle.rules_compiler.specs.declared.searches.TheConstants.{PLACES}
+
+-- ---- searches
+
+pub searches_length : (size place left : ℕ) → length (instructions (searches_code size place left)) ≡ 12 * left + 12
+unfolding searches_code
+searches_length size place zero = refl
+searches_length size place (suc left) = omega (arith, searches_length size (place + PLACES) left)
+
+-- ---- pieces that are too long
+
+pub first_long : (first next : Code) (r : Refusal) → IsTooLong (instructions first) r → IsTooLong (instructions (Then first next)) r
+first_long first next refusal.Far long = omega (arith, long, length-append (instructions first) (instructions next))
+first_long first next refusal.Memory long = tt
+
+pub next_long : (first next : Code) (r : Refusal) → IsTooLong (instructions next) r → IsTooLong (instructions (Then first next)) r
+next_long first next refusal.Far long = omega (arith, long, length-append (instructions first) (instructions next))
+next_long first next refusal.Memory long = tt
+
+pub block_long : (test : Test) (register : ℕ) (source : Source) (block : Code) (r : Refusal) →
+    IsTooLong (instructions block) r → IsTooLong (instructions (Unless test register source block)) r
+block_long test register source block refusal.Far long = omega (arith, long)
+block_long test register source block refusal.Memory long = tt
+
+-- ---- conditions and rules
+
+pub memory_never : (list : List Instruction) (r : Refusal) → r ≡ refusal.Memory → IsTooLong list r
+memory_never list r is = rw is tt
+
+pub compare_long : (t : Term) (how : Comparison) (number : ℕ) (r : Refusal) →
+    IsTooLong (instructions (comparing_code how number)) r → IsTooLong (instructions (compare_code t how number)) r
+unfolding compare_code
+compare_long t how number r long =
+    next_long (term_code t) (Unless jumps.Equal TRUTH (Immediate (pos 0)) (comparing_code how number)) r
+    (block_long jumps.Equal TRUTH (Immediate (pos 0)) (comparing_code how number) r long)
+
+pub compared_long : (t : Term) (how : Comparison) (number : ℕ) (r : Refusal) →
+    IsTooLong (instructions (compare_code t how number)) r → IsTooLong (instructions (test_code (test.Compare t how number))) r
+unfolding test_code
+compared_long t how number r long = long
+
+pub single_long : (t : Tests) (r : Refusal) → IsTooLong (instructions (test_code t)) r →
+    IsTooLong (instructions (condition_code (Single t))) r
+unfolding condition_code
+single_long t r long = long
+
+pub negated_long : (inner : Formula) (r : Refusal) → IsTooLong (instructions (condition_code inner)) r →
+    IsTooLong (instructions (condition_code (Negated inner))) r
+unfolding condition_code
+negated_long inner r long = first_long (condition_code inner) (Plain (change Xor TRUTH (pos 1) ∷ [])) r long
+
+pub both_one_long : (one other : Formula) (r : Refusal) → IsTooLong (instructions (condition_code one)) r →
+    IsTooLong (instructions (condition_code (Both one other))) r
+unfolding condition_code
+both_one_long one other r long =
+    first_long (condition_code one) (Unless jumps.Equal TRUTH (Immediate (pos 0)) (condition_code other)) r long
+
+pub both_other_long : (one other : Formula) (r : Refusal) → IsTooLong (instructions (condition_code other)) r →
+    IsTooLong (instructions (condition_code (Both one other))) r
+unfolding condition_code
+both_other_long one other r long =
+    next_long (condition_code one) (Unless jumps.Equal TRUTH (Immediate (pos 0)) (condition_code other)) r
+    (block_long jumps.Equal TRUTH (Immediate (pos 0)) (condition_code other) r long)
+
+pub either_one_long : (one other : Formula) (r : Refusal) → IsTooLong (instructions (condition_code one)) r →
+    IsTooLong (instructions (condition_code (Either one other))) r
+unfolding condition_code
+either_one_long one other r long =
+    first_long (condition_code one) (Unless jumps.NotEqual TRUTH (Immediate (pos 0)) (condition_code other)) r long
+
+pub either_other_long : (one other : Formula) (r : Refusal) → IsTooLong (instructions (condition_code other)) r →
+    IsTooLong (instructions (condition_code (Either one other))) r
+unfolding condition_code
+either_other_long one other r long =
+    next_long (condition_code one) (Unless jumps.NotEqual TRUTH (Immediate (pos 0)) (condition_code other)) r
+    (block_long jumps.NotEqual TRUTH (Immediate (pos 0)) (condition_code other) r long)
+
+pub when_long : (action : Action) (c : Formula) (r : Refusal) → IsTooLong (instructions (condition_code c)) r →
+    IsTooLong (instructions (line_code (record { action = action; condition = Some c }))) r
+unfolding line_code
+when_long action c r long =
+    first_long (condition_code c) (Unless jumps.Equal TRUTH (Immediate (pos 0)) (action_code action)) r long
+
+pub action_long : (action : Action) (c : Formula) (r : Refusal) → IsTooLong (instructions (action_code action)) r →
+    IsTooLong (instructions (line_code (record { action = action; condition = Some c }))) r
+unfolding line_code
+action_long action c r long =
+    next_long (condition_code c) (Unless jumps.Equal TRUTH (Immediate (pos 0)) (action_code action)) r
+    (block_long jumps.Equal TRUTH (Immediate (pos 0)) (action_code action) r long)
+
+-- ---- rules one after another
+
+lines_split : (rules : List Rule) (k : ℕ) → length (instructions (lines_code (lines_of rules)))
+    ≡ length (instructions (lines_code (take k (lines_of rules)))) + length (instructions (lines_code (lines_of (drop k rules))))
+unfolding lines_code
+lines_split [] zero = refl
+lines_split [] (suc k) = refl
+lines_split (rule ∷ rules) zero = omega arith
+lines_split (rule ∷ rules) (suc k) =
+    omega (
+      arith,
+      length-append (instructions (line_code (line_of rule))) (instructions (lines_code (lines_of rules))),
+      length-append (instructions (line_code (line_of rule))) (instructions (lines_code (take k (lines_of rules)))),
+      lines_split rules k,
+    )
+
+line_split : (line : Line) (lines rest : List Line) → lines ≡ line ∷ rest →
+    length (instructions (lines_code lines)) ≡ length (instructions (line_code line)) + length (instructions (lines_code rest))
+unfolding lines_code
+line_split line lines rest is =
+    ap (λ (l : List Line). length (instructions (lines_code l))) is
+    ∙ length-append (instructions (line_code line)) (instructions (lines_code rest))
+
+-- a rule with which the code before the end is too long is the first one, where that before it is not
+pub first_refused : (before made : List Instruction) (rules : List Rule) (k number : ℕ) (rule : Rule) (why : CompileFault) →
+    before ++ instructions (lines_code (lines_of rules)) ≡ made ++ instructions (lines_code (lines_of (drop k rules))) →
+    lines_of (drop k rules) ≡ line_of rule ∷ lines_of (drop (k + 1) rules) → length made + 2 ≤ MAX_SLOTS → number ≡ k + 1 →
+    IsRefusedAt (length made + length (instructions (line_code (line_of rule)))) number why →
+    AreRefusedAfter (length before) (lines_of rules) why
+first_refused before made rules k number rule (fault.Slots n) so_far next few is refused =
+    let all = length-append before (instructions (lines_code (lines_of rules))) in
+    let parts = length-append made (instructions (lines_code (lines_of (drop k rules)))) in
+    let same = ap (λ (l : List Instruction). length l) so_far in
+    let one = line_split (line_of rule) (lines_of (drop k rules)) (lines_of (drop (k + 1) rules)) next in
+    let here = lines_split rules k in
+    let behind = lines_split rules (k + 1) in
+    let at : n ≡ k + 1 = refused.0 ∙ is in
+    let past : k + 1 - 1 ≡ k = omega arith in
+    subst (λ (m : ℕ). IsFirstAfter (length before) (lines_of rules) m) (sym at)
+    (record { long = omega (arith, refused.1); short = rw past (omega arith) })
+first_refused before made rules k number rule fault.Memory so_far next few is refused = tt
+
+code_length : (lines : List Line) → length (instructions (code_of lines)) ≡ 2 + length (instructions (lines_code lines)) + 2
+unfolding code_of body_of
+code_length lines = omega (
+  arith,
+  length-append (instructions (lines_code lines)) (set ANSWER (pos 0) ∷ []),
+  length-append (instructions (lines_code lines) ++ set ANSWER (pos 0) ∷ []) (Exit ∷ []),
+)
+
+pub code_refused : (lines : List Line) (why : CompileFault) → AreRefusedAfter 2 lines why → AreRefused lines why
+code_refused lines (fault.Slots number) after = record {
+  long = omega (arith, after.long, code_length (take number lines));
+  short = omega (arith, after.short, code_length (take (number - 1) lines));
+}
+code_refused lines fault.Memory after = tt
