@@ -4,7 +4,7 @@ use Rattle.std.proofs.Common.{◌==◌, nat_lt, nat_le, if◌then◌else◌, Lis
 use Rattle.std.proofs.Common.{None, refl, sym, ap, ◌∙◌, arith, ⊎_elim}
 use Rattle.std.specs.Prelude.{Ok, Err, unwrap_or}
 use Rattle.std.proofs.lemmas.Bool.{le-leb}
-use Rattle.machine_spec.specs.declared.{outcome.Emission.Emission, outcome.Outcome.Outcome}
+use Rattle.machine_spec.specs.declared.{outcome.Outcome.Outcome}
 use Rattle.machine_spec.specs.declared.outcome.Outcome.TheVariants.{Kept, Rejected}
 use Rattle.machine_spec.specs.declared.operation.Width.TheVariants.{Bits64}
 use Rattle.machine_spec.specs.Values.{Number, immediate}

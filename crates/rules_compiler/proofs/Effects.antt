@@ -1,9 +1,9 @@
 -- What the code of tests and conditions does.
 use Rattle.std.proofs.Common.{◌≡◌, ℕ, ◌+◌, ◌*◌, ◌/◌, ◌%◌, ◌^◌, ◌<◌, ◌≤◌, pos, Bool, true, false, not}
 use Rattle.std.proofs.Common.{◌&&◌, ◌||◌, ◌==◌, nat_lt, nat_le, if◌then◌else◌, List, [], ◌∷◌, ◌++◌, length, Option, Some}
-use Rattle.std.proofs.Common.{None, refl, sym, ap, ◌∙◌, subst, arith, ⊎_elim}
+use Rattle.std.proofs.Common.{None, refl, sym, ap, ◌∙◌, subst, arith}
 use Rattle.std.specs.Int.{w32, cast_signed}
-use Rattle.std.proofs.lemmas.Bool.{cond_both, ne_eqb, eq-eqb, ltb-true}
+use Rattle.std.proofs.lemmas.Bool.{cond_both, ne_eqb, ltb-true}
 use Rattle.std.proofs.lemmas.{Int.of_z-to_z}
 use Rattle.machine_spec.specs.declared.instruction.Instruction.{Instruction}
 use Rattle.machine_spec.specs.declared.instruction.Source.TheVariants.{Register, Immediate}
@@ -25,6 +25,9 @@ use Rattle.rules.specs.Limits.{IsText, FitsPart, FitsTerm, FitsTest, HasFitting}
 use Rattle.rules_compiler.specs.Code.{Code, Plain, Unless}
 use Rattle.rules_compiler.specs.Pieces.{set, change, number_code, word_count, text_code, part_code, measure}
 use Rattle.rules_compiler.specs.Terms.{term_code}
+use Rattle.rules_compiler.specs.Tests.{value_test_code, is_short, equal_code, begins_code}
+use Rattle.rules_compiler.proofs.ValueEffects.{equal_texts, value_equal_decides, value_begins_decides}
+use Rattle.rules.specs.declared.rule.Part.TheVariants as part
 use Rattle.rules_compiler.specs.Tests.{stands, text_test_code, length_test_code, test_of, comparing_code, compare_code, test_code}
 use Rattle.rules_compiler.specs.Rules.{condition_code}
 use Rattle.rules_compiler.specs.declared.pieces.TheConstants.{NEAR}
@@ -34,9 +37,8 @@ use Rattle.rules_compiler.proofs.Parts.{found, bytes_found, absent_is, null_is, 
 use Rattle.machine_spec.specs.{Parts.part_numbered, Places.stand_at, Values.result_of}
 use Rattle.machine_spec.specs.declared.operation.Operation.TheVariants.{Add}
 use Rattle.std.specs.{Str.bytes_eq, List.starts_with}
-use Rattle.std.proofs.lemmas.{Slice.Eq.bytes_eq-Decides, List.take_all}
 use Rattle.std.proofs.Common.{nat_eq, unwrap_or}
-use Rattle.std.proofs.lemmas.Bool.{le-leb, cases_eq}
+use Rattle.std.proofs.lemmas.Bool.{le-leb}
 use Rattle.rules_compiler.proofs.Walks.{On, run_list, run}
 use Rattle.rules_compiler.proofs.SearchEffects.{has_decides}
 use Rattle.rules_compiler.proofs.Courses.{Decides, HasTerm, bit_of}
@@ -162,29 +164,6 @@ text_decides input given s ready p text how n fits is small =
     (Unless how 0 (Immediate (pos n)) (Plain (set 8 (pos 0) ∷ []))) s a.state (b && c) a.runs
     (asked_decides input a.state a.ready how n (length_answer (found p input.given)) c small a.answer a.truth b refl)
 
-same_truth : (a b : Bool) → (a ≡ true → b ≡ true) → (b ≡ true → a ≡ true) → a ≡ b
-same_truth true b x y = sym (x refl)
-same_truth false true x y = y refl
-same_truth false false x y = refl
-
-equal_texts : (bytes text : List ℕ) → ((length bytes + 2 == length text + 2) && starts_with nat_eq bytes text) ≡ bytes_eq bytes text
-equal_texts bytes text = ⊎_elim
-    (λ same.
-    let long : length bytes + 2 ≡ length text + 2 = omega arith in
-    let test = eq-eqb (length bytes + 2) (length text + 2) long in
-    let all = take_all (length text) bytes (omega arith) in
-    rw (test, all) (same_truth (bytes_eq text bytes) (bytes_eq bytes text)
-    (λ e. (bytes_eq-Decides bytes text).1 (sym ((bytes_eq-Decides text bytes).0 e)))
-    (λ e. (bytes_eq-Decides text bytes).1 (sym ((bytes_eq-Decides bytes text).0 e)))))
-    (λ apart.
-    let test = ne_eqb (length bytes + 2) (length text + 2) (λ e. apart (omega arith)) in
-    rw test (sym (not_true (bytes_eq bytes text) (λ e. apart (ap length ((bytes_eq-Decides bytes text).0 e))))))
-    (cases_eq (length bytes) (length text))
-  where
-    not_true : (b : Bool) → (b ≡ true → ⊥) → b ≡ false
-    not_true true h = absurd (h refl)
-    not_true false h = refl
-
 equal_is : (o : Option (Option (List ℕ))) (text : List ℕ) →
     ((length_answer o == length text + 2) && starts_with nat_eq (bytes_of_found o) text)
     ≡ passes_if (λ bytes. bytes_eq bytes text) (unwrap_or o None)
@@ -217,6 +196,34 @@ module _ (input : Input) (given : IsInput input) (s : State) (ready : Ready inpu
       (begin_is (found p input.given) text
       ∙ ap (passes_if (λ bytes. starts_with nat_eq bytes text)) (sym (bytes_found p input.given)))
       (text_decides input given s ready p text jumps.GreaterOrEqual 2 fits is refl)
+
+-- a short text of the value is compared byte by byte
+short_some : (text : List ℕ) → is_short text ≡ true → 1 ≤ length text
+short_some [] short = absurd cc
+short_some (byte ∷ text) short = omega arith
+
+module _ (input : Input) (given : IsInput input) (s : State) (ready : Ready input s) where
+  equal_test : (p : Part) (text : List ℕ) → FitsPart IsText p → IsText text →
+      Decides input (equal_code p text) s (test_equals p text input.given)
+  unfolding equal_code
+  equal_test part.Value text fits is = cond_both (is_short text) (value_test_code text jumps.NotEqual)
+      (text_test_code part.Value text jumps.Equal (length text + 2))
+      (λ code. Decides input code s (test_equals part.Value text input.given))
+      (λ short. value_equal_decides input given s ready text is (short_some text short))
+      (λ long. equal_decides input given s ready part.Value text fits is)
+  equal_test part.Key text fits is = equal_decides input given s ready part.Key text fits is
+  equal_test (part.Header key) text fits is = equal_decides input given s ready (part.Header key) text fits is
+
+  begins_test : (p : Part) (text : List ℕ) → FitsPart IsText p → IsText text →
+      Decides input (begins_code p text) s (test_begins p text input.given)
+  unfolding begins_code
+  begins_test part.Value text fits is = cond_both (is_short text) (value_test_code text jumps.Less)
+      (text_test_code part.Value text jumps.GreaterOrEqual 2)
+      (λ code. Decides input code s (test_begins part.Value text input.given))
+      (λ short. value_begins_decides input given s ready text is (short_some text short))
+      (λ long. begin_decides input given s ready part.Value text fits is)
+  begins_test part.Key text fits is = begin_decides input given s ready part.Key text fits is
+  begins_test (part.Header key) text fits is = begin_decides input given s ready (part.Header key) text fits is
 
 -- ---- numbers of 64 bits
 
@@ -327,8 +334,8 @@ module _ (input : Input) (given : IsInput input) where
   unfolding test_code
   test_decides (test.Null p) fits s ready = null_decides input given s ready p fits
   test_decides (test.Absent p) fits s ready = absent_decides input given s ready p fits
-  test_decides (test.Equal p text) fits s ready = equal_decides input given s ready p text fits.0 fits.1
-  test_decides (test.Begins p text) fits s ready = begin_decides input given s ready p text fits.0 fits.1
+  test_decides (test.Equal p text) fits s ready = equal_test input given s ready p text fits.0 fits.1
+  test_decides (test.Begins p text) fits s ready = begins_test input given s ready p text fits.0 fits.1
   test_decides (test.Has p text) fits s ready = has_decides input given s ready p text fits.0 fits.1
   test_decides (test.Compare t how n) fits s ready =
       compare_decides t how n fits.0 (omega (arith, fits.1.high_is)) s ready

@@ -43,7 +43,7 @@ use Rattle.rules_compiler.proofs.Courses.{Values, skipped, entered, then_values,
 -- ---- the numbers of bytes
 
 -- what an instruction makes of the number of bytes that were loaded
-abbrev order_of : Layout → ℕ → ℕ
+abbrev pub order_of : Layout → ℕ → ℕ
 order_of Byte n = n
 order_of U16Be n = swap_bytes w16 (n % 2 ^ 16)
 order_of U32Be n = swap_bytes w32 (n % 2 ^ 32)
@@ -83,7 +83,7 @@ swapped_eight : (text : List ℕ) (n : ℕ) → length text ≡ 8 → AreBytes t
     swap_bytes w64 n ≡ from_be_bytes w64 text
 swapped_eight text n long bytes is = ap (from_be_bytes w64) (le_bytes_8 text n long bytes is)
 
-order_is : (layout : Layout) (text : List ℕ) → length text ≡ layout_size layout → AreBytes text →
+pub order_is : (layout : Layout) (text : List ℕ) → length text ≡ layout_size layout → AreBytes text →
     order_of layout (little_endian text) ≡ layout_number layout text
 order_is Byte (a ∷ []) long bytes = omega arith
 order_is U16Be (a ∷ b ∷ []) long bytes = swapped_two (a ∷ b ∷ []) _ refl bytes (number_two a b (bytes 0) (bytes 1)).0
@@ -171,24 +171,26 @@ module _ (input : Input) (t : State) (ready : Ready input t) (text : List ℕ) (
 
 -- ---- the whole
 
+-- the bytes of a piece are some, where all are
+pub piece_bytes : (layout : Layout) (place : ℕ) (bytes : List ℕ) → AreBytes bytes →
+    AreBytes (take (layout_size layout) (drop place bytes))
+piece_bytes layout place bytes are at = taken (layout_size layout) (drop place bytes) (dropped place bytes are) at
+  where
+    dropped : (n : ℕ) (l : List ℕ) → AreBytes l → AreBytes (drop n l)
+    dropped zero l h = h
+    dropped (suc n) [] h = h
+    dropped (suc n) (x ∷ l) h = dropped n l (λ at. h (suc at))
+
+    taken : (n : ℕ) (l : List ℕ) → AreBytes l → AreBytes (take n l)
+    taken zero l h at = omega arith
+    taken (suc n) [] h at = h at
+    taken (suc n) (x ∷ l) h zero = h 0
+    taken (suc n) (x ∷ l) h (suc at) = taken n l (λ at. h (suc at)) at
+
 module _ (input : Input) (t : State) (ready : Ready input t) (layout : Layout) (place : ℕ) (bytes : List ℕ)
     (are : AreBytes bytes) (stack : ℕ → Option ℕ) (truth : t.registers 8 ≡ Number 0) where
   abbrev loading : Code
   loading = Unless jumps.NotEqual 0 (Immediate (pos 0)) (Plain (load_list layout))
-
-  part_bytes_are : AreBytes (take (layout_size layout) (drop place bytes))
-  part_bytes_are at = taken (layout_size layout) (drop place bytes) (dropped place bytes are) at
-    where
-      dropped : (n : ℕ) (l : List ℕ) → AreBytes l → AreBytes (drop n l)
-      dropped zero l h = h
-      dropped (suc n) [] h = h
-      dropped (suc n) (x ∷ l) h = dropped n l (λ at. h (suc at))
-
-      taken : (n : ℕ) (l : List ℕ) → AreBytes l → AreBytes (take n l)
-      taken zero l h at = omega arith
-      taken (suc n) [] h at = h at
-      taken (suc n) (x ∷ l) h zero = h 0
-      taken (suc n) (x ∷ l) h (suc at) = taken n l (λ at. h (suc at)) at
 
   load_values : (b : Bool) → has_part bytes place (layout_size layout) ≡ b →
       t.registers 0 ≡ Number (if has_part bytes place (layout_size layout) then 0 else 1) →
@@ -213,11 +215,11 @@ module _ (input : Input) (t : State) (ready : Ready input t) (layout : Layout) (
         ready = load_ready input u (assumption ready) text stack filled layout;
         has = (
           load_truth input u (assumption ready) text stack filled layout,
-          loads_number input u (assumption ready) text stack filled layout long part_bytes_are,
+          loads_number input u (assumption ready) text stack filled layout long (piece_bytes layout place bytes are),
         );
       }
 
-number_found : (layout : Layout) (place : ℕ) (o : Option (Option (List ℕ))) →
+pub number_found : (layout : Layout) (place : ℕ) (o : Option (Option (List ℕ))) →
     (if has_part (bytes_of_found o) place (layout_size layout) then Some (layout_number layout (take (layout_size layout)
     (drop place (bytes_of_found o)))) else None) ≡ in_bytes (number_at layout place) (unwrap_or o None)
 number_found layout place None = let none = lt-leb (place + layout_size layout) 0 (positive layout) in rw none refl

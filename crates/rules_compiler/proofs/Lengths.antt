@@ -1,10 +1,14 @@
 -- How long code is, and that code is too long of which a piece is.
 use Rattle.std.proofs.Common.{◌≡◌, ℕ, zero, suc, ◌+◌, ◌-◌, ◌*◌, ◌<◌, ◌≤◌, List, [], ◌∷◌, ◌++◌, length, take, drop, ap, ◌∙◌, sym, subst, arith}
-use Rattle.std.proofs.Common.{length-append, refl, pos, Some}
+use Rattle.std.proofs.Common.{length-append, append_assoc, refl, pos, Some, get_or}
+use Rattle.std.proofs.{Math.Seq.drop-cons}
+use Rattle.std.proofs.lemmas.List.{length-drop}
 use Rattle.machine_spec.specs.declared.{instruction.Instruction.Instruction, limits.TheConstants.MAX_SLOTS}
 use Rattle.machine_spec.specs.declared.{instruction.Source.Source, operation.Test.Test}
 use Rattle.rules.specs.declared.rule.Rule.{Rule}
 use Rattle.machine_spec.specs.declared.instruction.{Source.TheVariants.Immediate, Instruction.TheVariants.Exit}
+use Rattle.machine_spec.specs.declared.instruction.{Size.Size, Extension.TheVariants.Zero, Instruction.TheVariants.Load}
+use Rattle.machine_spec.specs.declared.{instruction.Instruction.TheVariants.JumpIf, operation.Width.TheVariants.Bits64}
 use Rattle.machine_spec.specs.declared.operation.Operation.TheVariants.{Xor}
 use Rattle.machine_spec.specs.declared.operation.Test.TheVariants as jumps
 use Rattle.rules.specs.declared.{rule.Term.Term, rule.Comparison.Comparison, rule.Test.Test as Tests, rule.Action.Action}
@@ -14,10 +18,10 @@ use Rattle.rules_compiler.specs.declared.{fault.CompileFault.CompileFault, fault
 use Rattle.rules_compiler.specs.declared.fault.CompileFault.TheVariants as fault
 use Rattle.rules_compiler.specs.declared.fault.Refusal.TheVariants as refusal
 use Rattle.rules_compiler.specs.Code.{Code, Plain, Then, Unless, instructions}
-use Rattle.rules_compiler.specs.declared.pieces.TheConstants.{ANSWER, TRUTH}
+use Rattle.rules_compiler.specs.declared.pieces.TheConstants.{ANSWER, LENGTH, TRUTH, VALUE}
 use Rattle.rules_compiler.specs.{Pieces.set, Pieces.change, Terms.term_code, Actions.action_code}
 use Rattle.rules_compiler.specs.Faults.{IsTooLong, IsRefusedAt, IsFirstAfter, AreRefusedAfter, AreRefused}
-use Rattle.rules_compiler.specs.Tests.{comparing_code, compare_code, test_code, searches_code}
+use Rattle.rules_compiler.specs.Tests.{match_byte, match_code, value_test_code, comparing_code, compare_code, test_code, searches_code}
 use Rattle.rules_compiler.specs.Rules.{condition_code, line_code, lines_code, body_of, code_of}
 use Rattle.rules_compiler.specs.declared.searches.TheConstants.{PLACES}
 
@@ -27,6 +31,56 @@ pub searches_length : (size place left : ℕ) → length (instructions (searches
 unfolding searches_code
 searches_length size place zero = refl
 searches_length size place (suc left) = omega (arith, searches_length size (place + PLACES) left)
+
+-- ---- short texts
+
+pub match_length : (text : List ℕ) (place : ℕ) → length (instructions (match_code text place)) ≡ 2 * length text + 1
+unfolding match_code
+match_length [] place = refl
+match_length (byte ∷ text) place = omega (arith, match_length text (place + 1))
+
+-- one more byte of a text
+pub match_step : (front code next : List Instruction) (text : List ℕ) (k : ℕ) → k < length text →
+    front ≡ code ++ instructions (match_code (drop k text) k) →
+    next ≡ code ++ match_byte k (get_or text k 0) (length text - k - 1) →
+    front ≡ next ++ instructions (match_code (drop (k + 1) text) (k + 1))
+unfolding match_code
+match_step front code next text k low so_far more =
+    let parts = drop-cons text k 0 low in
+    let one : suc k ≡ k + 1 = omega arith in
+    let long = match_length (drop (k + 1) text) (k + 1) in
+    let left : length (drop (k + 1) text) ≡ length text - k - 1 = omega (arith, length-drop (k + 1) text) in
+    let rest = instructions (match_code (drop (k + 1) text) (k + 1)) in
+    let count = long ∙ ap (λ (n : ℕ). 2 * n + 1) left in
+    so_far
+    ∙ ap (λ (l : List ℕ). code ++ instructions (match_code l k)) (parts ∙ ap (λ (n : ℕ). get_or text k 0 ∷ drop n text) one)
+    ∙ ap (λ (n : ℕ). code ++ (Load Size.Byte Zero ANSWER VALUE (pos k)
+    ∷ JumpIf Bits64 jumps.NotEqual ANSWER (Immediate (pos (get_or text k 0))) (pos n) ∷ rest)) count
+    ∙ sym (append_assoc code (match_byte k (get_or text k 0) (length text - k - 1)) rest)
+    ∙ ap (λ (l : List Instruction). l ++ rest) (sym more)
+
+no_more : (text : List ℕ) (k : ℕ) → length text ≤ k → drop k text ≡ []
+no_more [] zero past = refl
+no_more [] (suc k) past = refl
+no_more (byte ∷ text) zero past = absurd (omega arith)
+no_more (byte ∷ text) (suc k) past = no_more text k (omega arith)
+
+pub match_end : (front code : List Instruction) (text : List ℕ) (k : ℕ) → length text ≤ k →
+    front ≡ code ++ instructions (match_code (drop k text) k) → front ≡ code ++ set TRUTH (pos 1) ∷ []
+unfolding match_code
+match_end front code text k past so_far =
+    so_far ∙ ap (λ (l : List ℕ). code ++ instructions (match_code l k)) (no_more text k past)
+
+-- a test of a text as it is put together
+pub value_test_is : (front : List Instruction) (text : List ℕ) (how : Test) →
+    (front ++ set TRUTH (pos 0) ∷ JumpIf Bits64 how LENGTH (Immediate (pos (length text))) (pos (2 * length text + 1)) ∷ [])
+    ++ instructions (match_code text 0) ≡ front ++ instructions (value_test_code text how)
+unfolding value_test_code
+value_test_is front text how =
+    append_assoc front (set TRUTH (pos 0) ∷ JumpIf Bits64 how LENGTH (Immediate (pos (length text))) (pos (2 * length text + 1)) ∷ [])
+    (instructions (match_code text 0))
+    ∙ ap (λ (n : ℕ). front ++ (set TRUTH (pos 0) ∷ JumpIf Bits64 how LENGTH (Immediate (pos (length text))) (pos n)
+    ∷ instructions (match_code text 0))) (sym (match_length text 0))
 
 -- ---- pieces that are too long
 

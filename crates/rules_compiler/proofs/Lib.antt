@@ -8,6 +8,8 @@ pub mod Parts
 pub mod States
 pub mod Layouts
 pub mod SearchFlows
+pub mod ValueFlows
+pub mod TermFlows
 pub mod Shapes
 pub mod RuleFlows
 pub mod Courses
@@ -15,6 +17,7 @@ pub mod LayoutEffects
 pub mod Occurrences
 pub mod SearchEffects
 pub mod TermEffects
+pub mod ValueEffects
 pub mod Effects
 pub mod Emissions
 pub mod ActionEnds
@@ -22,6 +25,7 @@ pub mod Files
 pub mod Outcomes
 pub mod Spelt
 pub mod SpeltCode
+pub mod SpeltTests
 pub mod SpeltRules
 pub mod Whole
 pub mod Loops

@@ -1,4 +1,4 @@
--- The flow of each term, test and condition.
+-- The flow of each test and condition.
 use Rattle.std.proofs.Common.{◌≡◌, ℕ, ◌+◌, ◌^◌, ◌≤◌, pos, length, true, false, List, [], ◌∷◌, ◌++◌}
 use Rattle.std.proofs.Common.{Option, Some, None, refl, arith, nat_lt, ℤ, ◌⊎◌, ⊎_elim, inl, inr}
 use Rattle.std.proofs.lemmas.Bool.{cond_both}
@@ -25,12 +25,10 @@ use Rattle.verifier_spec.specs.{Transfer.falls_to, Transfer.jumps_to}
 use Rattle.verifier_spec.proofs.{Joins.within_refl}
 use Rattle.rules.specs.declared.{rule.Part.Part, rule.Term.Term, rule.Comparison.Comparison}
 use Rattle.rules.specs.declared.{rule.Test.Test as Tests}
-use Rattle.rules.specs.declared.rule.Term.TheVariants as term
 use Rattle.rules.specs.declared.rule.Test.TheVariants as test
 use Rattle.rules.specs.Lines.{Formula, Single, Negated, Both, Either}
 use Rattle.rules_compiler.specs.Code.{Code, Plain, Then, Unless}
 use Rattle.rules_compiler.specs.Pieces.{set, copy, change, high_half, low_half, word_count, text_code, part_code}
-use Rattle.rules_compiler.specs.Terms.{count_code, decimal_code, answer_code, term_code}
 use Rattle.rules_compiler.specs.Tests.{name_text, stands, text_test_code, length_test_code, test_of, comparing_code, compare_code, test_code}
 use Rattle.rules_compiler.specs.Rules.{condition_code}
 use Rattle.rules.specs.Limits.{IsText, FitsPart, FitsTerm, FitsTest, HasFitting}
@@ -40,72 +38,13 @@ use Rattle.rules_compiler.proofs.Texts.{near_stands, LeadsTo, leads_both, shape,
 use Rattle.rules_compiler.specs.declared.pieces.TheConstants.{NEAR}
 use Rattle.rules_compiler.proofs.Flows.{Flow, Passing, Skips, pass, after, after_proper}
 use Rattle.rules_compiler.proofs.SearchFlows.{has_flow}
-use Rattle.rules_compiler.proofs.Layouts.{layout_flow}
+use Rattle.rules_compiler.proofs.TermFlows.{term_flow}
+use Rattle.rules_compiler.proofs.ValueFlows.{equal_flow, begins_flow}
+use Rattle.rules_compiler.specs.Tests.{value_test_code, is_short, equal_code, begins_code}
+use Rattle.rules.specs.declared.rule.Part.TheVariants as part
 use Rattle.rules_compiler.proofs.States.{bit, decided, known, length_flow}
 use Rattle.rules_compiler.proofs.States.{loosely, measured, numbered, passing_from}
 use Rattle.rules_compiler.proofs.States.{settled, straight, valued}
-
-pub count_flow : (p : Part) → FitsPart IsText p → Flow (count_code p) settled valued
-unfolding count_code failed_check falls_to jumps_to each_below is_proper helper_among
-count_flow p fits = (
-  measured,
-  refl,
-  length_flow p fits,
-  (
-    known (Abs.Num 2 (MAX_VALUE + 2)) (Abs.Num 0 0),
-    record {
-      checked = refl;
-      proper = refl;
-      falls = within_refl (known (Abs.Num 2 (MAX_VALUE + 2)) (Abs.Num 0 0));
-      jumps = loosely _ valued refl refl refl refl;
-    },
-    record { passed = refl; within = loosely _ valued refl refl refl refl },
-  ),
-)
-
-abbrev pub decimal_list : ℕ → ℕ → List Instruction
-decimal_list place count = copy 1 6 ∷ set 2 (pos place) ∷ set 3 (pos count) ∷ Call (pos 17) ∷ set 8 (pos 0) ∷ []
-
-pub decimal_leads : (answer : Abs) (low high : ℕ) (places : StackSet) (place count : ℕ) →
-    LeadsTo (decimal_list place count) (numbered answer low high Abs.None places)
-    (numbered (Abs.Num 0 (10 ^ 18)) low high (Abs.Num 0 0) places)
-unfolding failed_check falls_to helper_among
-decimal_leads answer low high places place count = record { passed = refl; is = refl }
-
-pub decimal_flow : (p : Part) (place count : ℕ) → FitsPart IsText p → Flow (decimal_code p place count) settled valued
-unfolding decimal_code failed_check falls_to jumps_to each_below is_proper helper_among
-decimal_flow p place count fits =
-    let f = part_flow p fits in (
-      known (Abs.Num 0 (10 ^ 18)) (Abs.Num 0 0),
-      refl,
-      passing_from (part_code p ++ decimal_list place count) settled
-          (numbered (Abs.Num 0 (10 ^ 18)) f.low f.high (Abs.Num 0 0) f.places) (known (Abs.Num 0 (10 ^ 18)) (Abs.Num 0 0))
-          (leads_both (part_code p) (decimal_list place count) settled (numbered f.answer f.low f.high Abs.None f.places)
-          (numbered (Abs.Num 0 (10 ^ 18)) f.low f.high (Abs.Num 0 0) f.places) f.leads
-          (decimal_leads f.answer f.low f.high f.places place count))
-          (loosely (numbered (Abs.Num 0 (10 ^ 18)) f.low f.high (Abs.Num 0 0) f.places) (known (Abs.Num 0 (10 ^ 18)) (Abs.Num 0 0))
-          refl refl refl refl),
-      (
-        known (Abs.Num 1 (10 ^ 18)) (Abs.Num 0 0),
-        record {
-          checked = refl;
-          proper = refl;
-          falls = within_refl (known (Abs.Num 1 (10 ^ 18)) (Abs.Num 0 0));
-          jumps = loosely _ valued refl refl refl refl;
-        },
-        record { passed = refl; within = loosely _ valued refl refl refl refl },
-      ),
-    )
-
-pub term_flow : (t : Term) → FitsTerm IsText t → Flow (term_code t) settled valued
-unfolding term_code answer_code failed_check falls_to each_below helper_among
-term_flow (term.Length p) fits = count_flow p fits
-term_flow (term.Number layout p place) fits = layout_flow layout p place fits.0
-term_flow (term.Decimal p place count) fits = decimal_flow p place count fits.0
-term_flow term.Offset fits = record { passed = refl; within = loosely _ valued refl refl refl refl }
-term_flow term.Timestamp fits = record { passed = refl; within = loosely _ valued refl refl refl refl }
-term_flow term.Partition fits = record { passed = refl; within = loosely _ valued refl refl refl refl }
-term_flow term.Headers fits = record { passed = refl; within = loosely _ valued refl refl refl refl }
 
 -- ---- tests
 
@@ -304,12 +243,37 @@ pub text_test_flow : (p : Part) (text : List ℕ) (how : Jumps) (number : ℕ) �
 unfolding text_test_code is_proper
 text_test_flow p text how number fits is = (asked, refl, asked_flow p text fits is, asking_flow how number)
 
+-- a short text of the value
+short_flow : (text : List ℕ) (how : Jumps) → ((byte : ℕ) (rest : List ℕ) → length rest ≤ 255 →
+    Flow (value_test_code (byte ∷ rest) how) settled decided) → IsText text → is_short text ≡ true →
+    Flow (value_test_code text how) settled decided
+short_flow [] how flow is short = absurd cc
+short_flow (byte ∷ text) how flow is short = let few = is.few in flow byte text (omega arith)
+
+equal_test_flow : (p : Part) (text : List ℕ) → FitsPart IsText p → IsText text → Flow (equal_code p text) settled decided
+unfolding equal_code
+equal_test_flow part.Value text fits is = cond_both (is_short text) (value_test_code text jumps.NotEqual)
+    (text_test_code part.Value text jumps.Equal (length text + 2)) (λ code. Flow code settled decided)
+    (short_flow text jumps.NotEqual equal_flow is)
+    (λ long. text_test_flow part.Value text jumps.Equal (length text + 2) fits is)
+equal_test_flow part.Key text fits is = text_test_flow part.Key text jumps.Equal (length text + 2) fits is
+equal_test_flow (part.Header key) text fits is = text_test_flow (part.Header key) text jumps.Equal (length text + 2) fits is
+
+begins_test_flow : (p : Part) (text : List ℕ) → FitsPart IsText p → IsText text → Flow (begins_code p text) settled decided
+unfolding begins_code
+begins_test_flow part.Value text fits is = cond_both (is_short text) (value_test_code text jumps.Less)
+    (text_test_code part.Value text jumps.GreaterOrEqual 2) (λ code. Flow code settled decided)
+    (short_flow text jumps.Less begins_flow is)
+    (λ long. text_test_flow part.Value text jumps.GreaterOrEqual 2 fits is)
+begins_test_flow part.Key text fits is = text_test_flow part.Key text jumps.GreaterOrEqual 2 fits is
+begins_test_flow (part.Header key) text fits is = text_test_flow (part.Header key) text jumps.GreaterOrEqual 2 fits is
+
 pub test_flow : (t : Tests) → FitsTest IsText t → Flow (test_code t) settled decided
 unfolding test_code
 test_flow (test.Null p) fits = length_test_flow p (pos 1) fits (inr refl)
 test_flow (test.Absent p) fits = length_test_flow p (pos 0) fits (inl refl)
-test_flow (test.Equal p text) fits = text_test_flow p text jumps.Equal (length text + 2) fits.0 fits.1
-test_flow (test.Begins p text) fits = text_test_flow p text jumps.GreaterOrEqual 2 fits.0 fits.1
+test_flow (test.Equal p text) fits = equal_test_flow p text fits.0 fits.1
+test_flow (test.Begins p text) fits = begins_test_flow p text fits.0 fits.1
 test_flow (test.Has p text) fits = has_flow p text fits.0 fits.1
 test_flow (test.Compare t how number) fits = compare_flow t how number fits.0
 

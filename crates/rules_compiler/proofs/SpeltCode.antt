@@ -1,5 +1,5 @@
 -- The code of conditions is read again from its spelling.
-use Rattle.std.proofs.Common.{◌≡◌, ℕ, zero, suc, ◌+◌, ◌-◌, ◌/◌, ◌%◌, ◌^◌, ◌<◌, ◌≤◌, ℤ, pos, true, nat_le, nat_lt}
+use Rattle.std.proofs.Common.{◌≡◌, ℕ, zero, suc, ◌/◌, ◌%◌, ◌^◌, ◌<◌, ◌≤◌, ℤ, pos, true, nat_le, nat_lt}
 use Rattle.std.proofs.Common.{List, [], ◌∷◌, ◌++◌, length, refl, arith, FitsSigned}
 use Rattle.std.proofs.Common.{length-append}
 use Rattle.std.specs.Int.{w16, w32}
@@ -10,17 +10,13 @@ use Rattle.machine_spec.specs.declared.{operation.Test.Test as Jumps}
 use Rattle.machine_spec.specs.declared.limits.TheConstants.{MAX_SLOTS}
 use Rattle.machine_spec.specs.declared.instruction.Instruction.TheVariants.{Move, Compute, Call}
 use Rattle.machine_spec.specs.declared.instruction.Source.TheVariants.{Register, Immediate}
-use Rattle.machine_spec.specs.declared.operation.Operation.TheVariants.{Add, Sub, Xor, LeftShift}
+use Rattle.machine_spec.specs.declared.operation.Operation.TheVariants.{Add, Sub, LeftShift}
 use Rattle.machine_spec.specs.declared.operation.Width.TheVariants.{Bits32, Bits64}
 use Rattle.machine_spec.specs.declared.operation.Test.TheVariants as jumps
 use Rattle.machine_spec.specs.{Image.read_fields, Opcodes.template_of}
-use Rattle.rules.specs.declared.{rule.Part.Part, rule.Layout.Layout, rule.Term.Term, rule.Comparison.Comparison}
-use Rattle.rules.specs.declared.{rule.Test.Test as Tests}
+use Rattle.rules.specs.declared.{rule.Part.Part, rule.Layout.Layout}
 use Rattle.rules.specs.declared.rule.Part.TheVariants as part
-use Rattle.rules.specs.declared.rule.Term.TheVariants as term
-use Rattle.rules.specs.declared.rule.Test.TheVariants as test
-use Rattle.rules.specs.Lines.{Formula, Single, Negated, Both, Either}
-use Rattle.rules.specs.Limits.{IsText, FitsPart, FitsTerm, FitsTest, HasFitting}
+use Rattle.rules.specs.Limits.{IsText, FitsPart}
 use Rattle.rules_compiler.specs.Code.{Code, Plain, Then, Unless, instructions}
 use Rattle.rules_compiler.specs.Pieces.{set, copy, change, number_code, word_at, word_store, words_code, word_count, text_code}
 use Rattle.rules_compiler.specs.Pieces.{header_call, header_number, part_code, measure, high_half, low_half}
@@ -30,18 +26,15 @@ use Rattle.std.proofs.Common.{◌+ℤ◌, ◌*◌}
 use Rattle.std.proofs.lemmas.Int.{ints}
 use Rattle.machine_spec.specs.declared.instruction.Instruction.TheVariants.{Store, Load}
 use Rattle.machine_spec.specs.declared.instruction.Size.TheVariants.{Word}
-use Rattle.rules_compiler.specs.Terms.{count_code, decimal_code, answer_code, term_code, size_of, turned, ordered, room_call, load_list}
+use Rattle.rules_compiler.specs.Terms.{answer_code, size_of, turned, ordered, room_call, load_list}
 use Rattle.rules_compiler.specs.Terms.{layout_code}
 use Rattle.rules.specs.Meaning.{layout_size}
 use Rattle.rules.specs.declared.rule.Layout.TheVariants.{Byte, U16Be, U32Be, U64Be, U16Le, U32Le, U64Le}
 use Rattle.machine_spec.specs.declared.operation.SwappedWidth.{SwappedWidth}
 use Rattle.machine_spec.specs.declared.instruction.Extension.TheVariants.{Zero}
-use Rattle.rules_compiler.specs.Tests.{look, sized, mark, searches_code, has_code}
-use Rattle.rules_compiler.specs.declared.searches.TheConstants.{LOOKED_AT, OTHERS, PLACES}
-use Rattle.rules_compiler.specs.Tests.{stands, text_test_code, length_test_code, test_of, comparing_code, compare_code, test_code}
-use Rattle.rules_compiler.specs.Rules.{condition_code}
+use Rattle.rules_compiler.specs.Tests.{stands}
 use Rattle.rules_compiler.proofs.Images.{IsSpelt, AreSpelt, spelt_both}
-use Rattle.rules_compiler.proofs.Spelt.{fits_half, fits_imm, fits_nothing, fits_zero, spelt_add, spelt_against}
+use Rattle.rules_compiler.proofs.Spelt.{fits_half, fits_imm, fits_nothing, fits_zero, spelt_add}
 use Rattle.rules_compiler.proofs.Spelt.{spelt_call, spelt_change, spelt_copy, spelt_half, spelt_jump}
 use Rattle.rules_compiler.proofs.Spelt.{spelt_set}
 
@@ -270,124 +263,3 @@ layout_spells layout p place fits low = spells_then
     )))
     (spells_unless jumps.NotEqual 0 (pos 0) refl fits_zero
     (spells_plain (load_list layout) (spelt_load layout, (ordered_spelt layout, (set_one 8 refl, tt)))))
-
-pub term_spells : (t : Term) → FitsTerm IsText t → Spells (term_code t)
-unfolding term_code count_code decimal_code
-term_spells (term.Length p) fits = spells_then (measured_spells p fits) (answered_spells 2 (omega arith))
-term_spells (term.Number layout p place) fits = layout_spells layout p place fits.0 fits.1.high_is
-term_spells (term.Decimal p place count) fits = spells_then
-    (spells_plain (part_code p ++ decimal_list place count) (part_spelt p (decimal_list place count) fits.0 (
-      spelt_copy 1 refl 6 refl,
-      (
-        spelt_set 2 refl (pos place) (fits_imm place (omega (arith, fits.1.0.high_is))),
-        (spelt_set 3 refl (pos count) (fits_imm count (omega (arith, fits.1.1.high_is))), (spelt_call 17 (omega arith), (set_zero 8 refl, tt))),
-      ),
-    )))
-    (answered_spells 1 (omega arith))
-term_spells term.Offset fits = answer_spells 7 (omega arith)
-term_spells term.Timestamp fits = answer_spells 8 (omega arith)
-term_spells term.Partition fits = answer_spells 9 (omega arith)
-term_spells term.Headers fits = answer_spells 10 (omega arith)
-
-pub length_test_spells : (p : Part) (n : ℕ) → FitsPart IsText p → n < 2 ^ 31 → Spells (length_test_code p (pos n))
-unfolding length_test_code
-length_test_spells p n fits small = spells_then (measured_spells p fits)
-    (spells_unless jumps.NotEqual 0 (pos n) refl (fits_imm n small)
-    (spells_plain (set 8 (pos 1) ∷ []) (set_one 8 refl, tt)))
-
-pub comparing_spells : (how : Comparison) (n : ℕ) → n < 2 ^ 64 → Spells (comparing_code how n)
-unfolding comparing_code
-comparing_spells how n small = spells_then (spells_plain (number_code 1 n) (number_spelt 1 n refl small))
-    (record { spelt = λ few. (spelt_against (test_of how) 1 (omega arith), (set_zero 8 refl, tt)) })
-
-pub stands_spelt : (size : ℕ) → size ≤ 255 → AreSpelt (stands size)
-stands_spelt size few = (
-  spelt_copy 1 refl 6 refl,
-  (
-    set_zero 2 refl,
-    (
-      spelt_copy 3 refl 10 refl,
-      (
-        spelt_near 3 refl,
-        (
-          spelt_set 4 refl (pos size) (fits_imm size (omega arith)),
-          (
-            spelt_call 16 (omega arith),
-            (
-              spelt_copy 8 refl 0 refl,
-              (spelt_copy 1 refl 6 refl, (spelt_call 13 (omega arith), tt)),
-            ),
-          ),
-        ),
-      ),
-    ),
-  ),
-)
-
-pub text_test_spells : (p : Part) (text : List ℕ) (how : Jumps) (n : ℕ) → FitsPart IsText p → IsText text → n < 2 ^ 31 →
-    Spells (text_test_code p text how n)
-unfolding text_test_code
-text_test_spells p text how n fits is small = spells_then
-    (spells_plain (part_code p ++ (text_code NEAR text ++ stands (length text)))
-    (part_spelt p (text_code NEAR text ++ stands (length text)) fits
-    (text_spelt near_stands text (stands (length text)) is (stands_spelt (length text) is.few))))
-    (spells_unless how 0 (pos n) refl (fits_imm n small) (spells_plain (set 8 (pos 0) ∷ []) (set_zero 8 refl, tt)))
-
-pub look_spelt : (size place : ℕ) → size ≤ 255 → place ≤ 65536 → AreSpelt (look size place)
-look_spelt size place few low = (
-  spelt_copy 1 refl 6 refl,
-  (
-    spelt_set 2 refl (pos place) (fits_imm place (omega arith)),
-    (
-      spelt_copy 3 refl 10 refl,
-      (spelt_near 3 refl, (spelt_set 4 refl (pos size) (fits_imm size (omega arith)), (spelt_call 15 (omega arith), tt))),
-    ),
-  ),
-)
-
-pub sized_spelt : AreSpelt sized
-sized_spelt = (spelt_copy 1 refl 6 refl, (spelt_call 13 (omega arith), tt))
-
-pub mark_spells : Spells mark
-mark_spells = spells_plain (set 8 (pos 1) ∷ []) (set_one 8 refl, tt)
-
-pub searches_spell : (size place left : ℕ) → size ≤ 255 → place + PLACES * left ≤ 65536 → Spells (searches_code size place left)
-unfolding searches_code
-searches_spell size place zero few low = spells_then (spells_plain sized sized_spelt)
-    (spells_unless jumps.Less 0 (pos (place + size + 2)) refl (fits_imm (place + size + 2) (omega arith))
-    (spells_then (spells_plain (look size place) (look_spelt size place few (omega arith)))
-    (spells_unless jumps.Equal 0 (pos 0) refl fits_zero
-    (spells_unless jumps.Greater 0 (pos (LOOKED_AT - size + 1)) refl (fits_imm (LOOKED_AT - size + 1) (omega arith)) mark_spells))))
-searches_spell size place (suc left) few low = spells_then (spells_plain sized sized_spelt)
-    (spells_unless jumps.Less 0 (pos (place + size + 2)) refl (fits_imm (place + size + 2) (omega arith))
-    (spells_then (spells_plain (look size place) (look_spelt size place few (omega arith)))
-    (spells_then (spells_unless jumps.Equal 0 (pos 0) refl fits_zero mark_spells)
-    (spells_unless jumps.NotEqual 8 (pos 0) refl fits_zero (searches_spell size (place + PLACES) left few (omega arith))))))
-
-pub has_spells : (p : Part) (text : List ℕ) → FitsPart IsText p → IsText text → Spells (has_code p text)
-unfolding has_code
-has_spells p text fits is = spells_then
-    (spells_plain (part_code p ++ (text_code NEAR text ++ set 8 (pos 0) ∷ []))
-    (part_spelt p (text_code NEAR text ++ set 8 (pos 0) ∷ []) fits (text_spelt near_stands text (set 8 (pos 0) ∷ []) is (set_zero 8 refl, tt))))
-    (searches_spell (length text) 0 OTHERS is.few (omega arith))
-
-pub test_spells : (t : Tests) → FitsTest IsText t → Spells (test_code t)
-unfolding test_code compare_code
-test_spells (test.Null p) fits = length_test_spells p 1 fits (omega arith)
-test_spells (test.Absent p) fits = length_test_spells p 0 fits (omega arith)
-test_spells (test.Equal p text) fits =
-    let few = fits.1.few in text_test_spells p text jumps.Equal (length text + 2) fits.0 fits.1 (omega arith)
-test_spells (test.Begins p text) fits = text_test_spells p text jumps.GreaterOrEqual 2 fits.0 fits.1 (omega arith)
-test_spells (test.Has p text) fits = has_spells p text fits.0 fits.1
-test_spells (test.Compare t how n) fits = spells_then (term_spells t fits.0)
-    (spells_unless jumps.Equal 8 (pos 0) refl fits_zero (comparing_spells how n (omega (arith, fits.1.high_is))))
-
-pub condition_spells : (c : Formula) → HasFitting IsText c → Spells (condition_code c)
-unfolding condition_code
-condition_spells (Single t) fits = test_spells t fits
-condition_spells (Negated inner) fits = spells_then (condition_spells inner fits)
-    (spells_plain (change Xor 8 (pos 1) ∷ []) (spelt_change 8 refl Xor (pos 1) refl (fits_imm 1 (omega arith)), tt))
-condition_spells (Both one other) fits = spells_then (condition_spells one fits.0)
-    (spells_unless jumps.Equal 8 (pos 0) refl fits_zero (condition_spells other fits.1))
-condition_spells (Either one other) fits = spells_then (condition_spells one fits.0)
-    (spells_unless jumps.NotEqual 8 (pos 0) refl fits_zero (condition_spells other fits.1))

@@ -22,7 +22,8 @@ use Rattle.rules_compiler.specs.Rules.{guarded_code, line_code, lines_code, body
 use Rattle.rules_compiler.proofs.Spelt.{fits_imm, fits_zero}
 use Rattle.rules_compiler.proofs.Spelt.{spelt_call, spelt_change, spelt_copy, spelt_exit}
 use Rattle.rules_compiler.proofs.Spelt.{spelt_set}
-use Rattle.rules_compiler.proofs.SpeltCode.{Spells, condition_spells, number_spelt, part_spelt, set_zero}
+use Rattle.rules_compiler.proofs.SpeltCode.{Spells, number_spelt, part_spelt, set_zero}
+use Rattle.rules_compiler.proofs.SpeltTests.{condition_spells}
 use Rattle.rules_compiler.proofs.SpeltCode.{spells_plain, spells_then, spells_unless, spelt_near, spelt_far, text_spelt}
 use Rattle.rules_compiler.proofs.Texts.{near_stands, far_stands}
 use Rattle.rules_compiler.proofs.Spelt.{spelt_call, spelt_set}

@@ -38,6 +38,13 @@ use Rattle.std.proofs.Common.{unwrap_or, take}
 use Rattle.std.proofs.lemmas.Bool.{le-leb}
 use Rattle.rules_compiler.proofs.Walks.{On, run_list}
 use Rattle.rules_compiler.proofs.LayoutEffects.{layout_values}
+use Rattle.rules_compiler.proofs.ValueEffects.{number_values}
+use Rattle.rules.specs.Meaning.{number_at}
+use Rattle.rules_compiler.specs.Terms.{layout_code, value_number_code, part_number_code}
+use Rattle.rules_compiler.specs.declared.values.TheConstants.{REACH}
+use Rattle.rules.specs.declared.rule.{Layout.Layout}
+use Rattle.rules.specs.declared.rule.Part.TheVariants as part
+use Rattle.std.proofs.lemmas.Bool.{cond_both, ltb-true}
 use Rattle.rules_compiler.proofs.Courses.{Values, bytes_few}
 use Rattle.rules_compiler.proofs.Courses.{bytes_of_found, entered, less_two}
 use Rattle.rules_compiler.proofs.Courses.{list_values, measures}
@@ -245,12 +252,24 @@ module _ (input : Input) (given : IsInput input) (s : State) (ready : Ready inpu
       (then_values input (Plain (part_code p ++ decimal_list place count))
       (Unless jumps.Less 0 (Immediate (pos 1)) (Plain (change Sub 0 (pos 1) ∷ set 8 (pos 1) ∷ []))) s u o (ap On both) v)
 
+  number_term : (layout : Layout) (p : Part) (place : ℕ) → FitsPart IsText p → place ≤ 1048576 →
+      Values input (part_number_code layout p place) s (in_bytes (number_at layout place) (part_bytes p input.given))
+  unfolding part_number_code
+  number_term layout part.Value place fits low = cond_both (nat_lt place REACH) (value_number_code layout place)
+      (layout_code layout part.Value place)
+      (λ code. Values input code s (in_bytes (number_at layout place) input.given.value))
+      (λ near. number_values input given s ready layout place (ltb-true place REACH near))
+      (λ far. layout_values input given s ready layout part.Value place fits low)
+  number_term layout part.Key place fits low = layout_values input given s ready layout part.Key place fits low
+  number_term layout (part.Header key) place fits low =
+      layout_values input given s ready layout (part.Header key) place fits low
+
   pub term_values : (t : Term) → FitsTerm IsText t →
       Values input (term_code t) s (term_value t input.given input.place)
   unfolding term_code answer_code state_after helper_among
   term_values (term.Length p) fits = count_values p fits
   term_values (term.Number layout p place) fits =
-      layout_values input given s ready layout p place fits.0 fits.1.high_is
+      number_term layout p place fits.0 fits.1.high_is
   term_values (term.Decimal p place count) fits =
       decimal_values p place count fits.0 fits.1.0.high_is fits.1.1.low_is fits.1.1.high_is
   term_values term.Offset fits = list_values input (Call (pos 7) ∷ set 8 (pos 1) ∷ []) s _ (assumption ready) (refl, refl)

@@ -1,5 +1,5 @@
 -- The code of terms: r8 gets whether the record has one, and r0 its value.
-use Rattle.std.specs.Prelude.{ℕ, ℤ, pos, List, [], ◌∷◌, ◌++◌}
+use Rattle.std.specs.Prelude.{ℕ, ◌+◌, ℤ, pos, nat_lt, if◌then◌else◌, List, [], ◌∷◌, ◌++◌}
 use Rattle.machine_spec.specs.declared.instruction.Instruction.{Instruction}
 use Rattle.machine_spec.specs.declared.instruction.Instruction.TheVariants.{Load, Unary, Call}
 use Rattle.machine_spec.specs.declared.instruction.{Size.Size, Extension.TheVariants.Zero}
@@ -13,8 +13,10 @@ use Rattle.machine_spec.specs.declared.operation.Test.TheVariants.{NotEqual, Les
 use Rattle.rules.specs.declared.{rule.Part.Part, rule.Layout.Layout, rule.Term.Term}
 use Rattle.rules.specs.declared.rule.Layout.TheVariants.{Byte, U16Be, U32Be, U64Be, U16Le, U32Le, U64Le}
 use Rattle.rules.specs.Meaning.{layout_size}
+use Rattle.rules.specs.declared.rule.Part.TheVariants as part
 use Rattle.rules.specs.declared.rule.Term.TheVariants as term
-use Rattle.rules_compiler.specs.declared.pieces.TheConstants.{ANSWER, PART, TRUTH, FRAME, NEAR}
+use Rattle.rules_compiler.specs.declared.pieces.TheConstants.{ANSWER, PART, LENGTH, TRUTH, VALUE, FRAME, NEAR}
+use Rattle.rules_compiler.specs.declared.values.TheConstants.{REACH}
 use Rattle.rules_compiler.specs.Code.{Code, Plain, Then, Unless}
 use Rattle.rules_compiler.specs.Pieces.{set, copy, change, part_code, measure}
 
@@ -70,9 +72,23 @@ unfoldable pub layout_code : Layout → Part → ℕ → Code
 layout_code layout p place = Then (Plain (part_code p ++ room_call (layout_size layout) place))
     (Unless NotEqual ANSWER (Immediate (pos 0)) (Plain (load_list layout)))
 
+abbrev pub value_load : Layout → ℕ → List Instruction
+value_load layout place = Load (size_of layout) Zero ANSWER VALUE (pos place) ∷ ordered layout ∷ set TRUTH (pos 1) ∷ []
+
+-- the number that bytes of the value are
+unfoldable pub value_number_code : Layout → ℕ → Code
+value_number_code layout place = Then (Plain (set ANSWER (pos 0) ∷ set TRUTH (pos 0) ∷ []))
+    (Unless Less LENGTH (Immediate (pos (place + layout_size layout))) (Plain (value_load layout place)))
+
+-- a load names a place below 32,768
+unfoldable pub part_number_code : Layout → Part → ℕ → Code
+part_number_code layout part.Value place =
+    if nat_lt place REACH then value_number_code layout place else layout_code layout part.Value place
+part_number_code layout p place = layout_code layout p place
+
 unfoldable pub term_code : Term → Code
 term_code (term.Length p) = count_code p
-term_code (term.Number layout p place) = layout_code layout p place
+term_code (term.Number layout p place) = part_number_code layout p place
 term_code (term.Decimal p place count) = decimal_code p place count
 term_code term.Offset = answer_code (pos 7)
 term_code term.Timestamp = answer_code (pos 8)

@@ -1,16 +1,21 @@
 -- The code of tests: r8 gets whether one holds.
-use Rattle.std.specs.Prelude.{ℕ, zero, suc, ◌+◌, ◌-◌, ℤ, pos, List, [], ◌∷◌, ◌++◌, length}
+use Rattle.std.specs.Prelude.{ℕ, zero, suc, ◌+◌, ◌-◌, ◌*◌, ℤ, pos, Bool, ◌&&◌, nat_lt, nat_le, if◌then◌else◌}
+use Rattle.std.specs.Prelude.{List, [], ◌∷◌, ◌++◌, length}
 use Rattle.machine_spec.specs.declared.instruction.Instruction.{Instruction}
-use Rattle.machine_spec.specs.declared.instruction.Instruction.TheVariants.{Call}
+use Rattle.machine_spec.specs.declared.instruction.Instruction.TheVariants.{Load, JumpIf, Call}
+use Rattle.machine_spec.specs.declared.operation.Width.TheVariants.{Bits64}
+use Rattle.machine_spec.specs.declared.instruction.{Size.Size, Extension.TheVariants.Zero}
 use Rattle.machine_spec.specs.declared.operation.Operation.TheVariants.{Add}
 use Rattle.machine_spec.specs.declared.instruction.Source.TheVariants.{Register, Immediate}
 use Rattle.machine_spec.specs.declared.operation.{Test.Test as Jumps}
 use Rattle.machine_spec.specs.declared.operation.Test.TheVariants as jumps
 use Rattle.rules.specs.declared.{rule.Part.Part, rule.Term.Term, rule.Comparison.Comparison, rule.Test.Test}
+use Rattle.rules.specs.declared.rule.Part.TheVariants as part
 use Rattle.rules.specs.declared.rule.Comparison.TheVariants as comparison
 use Rattle.rules.specs.declared.rule.Test.TheVariants as test
 use Rattle.rules_compiler.specs.declared.searches.TheConstants.{LOOKED_AT, OTHERS, PLACES}
-use Rattle.rules_compiler.specs.declared.pieces.TheConstants.{ANSWER, PART, TRUTH, FRAME, NEAR}
+use Rattle.rules_compiler.specs.declared.pieces.TheConstants.{ANSWER, PART, LENGTH, TRUTH, VALUE, FRAME, NEAR}
+use Rattle.rules_compiler.specs.declared.values.TheConstants.{SHORT}
 use Rattle.rules_compiler.specs.Code.{Code, Plain, Then, Unless}
 use Rattle.rules_compiler.specs.Pieces.{set, copy, change, number_code, text_code, part_code, measure}
 use Rattle.rules_compiler.specs.Terms.{term_code}
@@ -32,6 +37,38 @@ stands size = name_text size ++ (Call (pos 16) ∷ copy TRUTH ANSWER ∷ copy 1 
 unfoldable pub text_test_code : Part → List ℕ → Jumps → ℕ → Code
 text_test_code p text how number = Then (Plain (part_code p ++ (text_code NEAR text ++ stands (length text))))
     (Unless how ANSWER (Immediate (pos number)) (Plain (set TRUTH (pos 0) ∷ [])))
+
+-- ---- short texts of the value
+
+-- a byte of the value is compared, after which so many others are
+abbrev pub match_byte : (place byte left : ℕ) → List Instruction
+match_byte place byte left = Load Size.Byte Zero ANSWER VALUE (pos place)
+    ∷ JumpIf Bits64 jumps.NotEqual ANSWER (Immediate (pos byte)) (pos (2 * left + 1)) ∷ []
+
+-- r8 gets 1 where the value has the bytes of a text from a place on
+unfoldable pub match_code : List ℕ → ℕ → Code
+match_code [] place = Plain (set TRUTH (pos 1) ∷ [])
+match_code (byte ∷ text) place = Then (Plain (Load Size.Byte Zero ANSWER VALUE (pos place) ∷ []))
+    (Unless jumps.NotEqual ANSWER (Immediate (pos byte)) (match_code text (place + 1)))
+
+-- the value begins with a text, and its length compared with the text's fails a test
+unfoldable pub value_test_code : List ℕ → Jumps → Code
+value_test_code text how = Then (Plain (set TRUTH (pos 0) ∷ []))
+    (Unless how LENGTH (Immediate (pos (length text))) (match_code text 0))
+
+-- a text is compared with the value byte by byte
+abbrev pub is_short : List ℕ → Bool
+is_short text = nat_lt 0 (length text) && nat_le (length text) SHORT
+
+unfoldable pub equal_code : Part → List ℕ → Code
+equal_code part.Value text = if is_short text then value_test_code text jumps.NotEqual
+    else text_test_code part.Value text jumps.Equal (length text + 2)
+equal_code p text = text_test_code p text jumps.Equal (length text + 2)
+
+unfoldable pub begins_code : Part → List ℕ → Code
+begins_code part.Value text = if is_short text then value_test_code text jumps.Less
+    else text_test_code part.Value text jumps.GreaterOrEqual 2
+begins_code p text = text_test_code p text jumps.GreaterOrEqual 2
 
 -- ---- has
 
@@ -86,7 +123,7 @@ compare_code t how number = Then (term_code t)
 unfoldable pub test_code : Test → Code
 test_code (test.Null p) = length_test_code p (pos 1)
 test_code (test.Absent p) = length_test_code p (pos 0)
-test_code (test.Equal p text) = text_test_code p text jumps.Equal (length text + 2)
-test_code (test.Begins p text) = text_test_code p text jumps.GreaterOrEqual 2
+test_code (test.Equal p text) = equal_code p text
+test_code (test.Begins p text) = begins_code p text
 test_code (test.Has p text) = has_code p text
 test_code (test.Compare t how number) = compare_code t how number

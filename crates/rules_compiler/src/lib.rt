@@ -10,6 +10,7 @@ mod actions;
 mod blocks;
 mod conditions;
 mod fault;
+mod loads;
 mod pieces;
 mod program;
 mod searches;
@@ -17,6 +18,7 @@ mod terms;
 mod tests;
 mod text;
 mod text_bytes;
+mod values;
 
 pub use fault::CompileFault;
 pub use program::compile;

@@ -1,17 +1,16 @@
 //! Terms: r8 gets whether a record has one, and r0 its value.
 
-ghost use Rattle.std.specs.Prelude.{◌≡◌, ◌≤◌, ◌++◌, pos, OnOk};
-ghost use Rattle.rules.specs.Meaning.{layout_size};
+ghost use Rattle.std.specs.Prelude.{◌≡◌, ◌≤◌, ◌++◌, OnOk};
 ghost use Rattle.rules.specs.Limits.{FitsText, FitsPart, FitsTerm};
 ghost use Rattle.rules_compiler.specs.Code.{instructions};
 ghost use Rattle.rules_compiler.specs.Terms as definitions;
 
+use crate::loads::{layout_size, ordered, size_of};
 use crate::pieces::{
     ANSWER, FRAME, NEAR, PART, TRUTH, change, copy, put_measured, put_part, set, skip_if,
 };
-use machine_spec::{
-    ByteOrder, Change, Extension, Instruction, Operation, Size, SwappedWidth, Test,
-};
+use crate::values::{REACH, put_value_number};
+use machine_spec::{Extension, Instruction, Operation, Test};
 use rules::{Layout, Part, Term};
 use std::alloc::AllocError;
 
@@ -61,48 +60,6 @@ fn put_answer(code: &mut Vec<Instruction>, helper: i32) -> Result<(), AllocError
     code.extend_from_slice(&[Instruction::Call(helper), set(TRUTH, 1)])
 }
 
-/// How many bytes are loaded.
-fn size_of(layout: Layout) -> Size
-    ensures { result ≡ definitions.size_of layout }
-{
-    match layout {
-        Layout::Byte => Size::Byte,
-        Layout::U16Be | Layout::U16Le => Size::Half,
-        Layout::U32Be | Layout::U32Le => Size::Word,
-        Layout::U64Be | Layout::U64Le => Size::Double,
-    }
-}
-
-/// How many bytes a layout has.
-fn layout_size(layout: Layout) -> i32
-    ensures { result ≡ pos (layout_size layout) }
-{
-    match layout {
-        Layout::Byte => 1,
-        Layout::U16Be | Layout::U16Le => 2,
-        Layout::U32Be | Layout::U32Le => 4,
-        Layout::U64Be | Layout::U64Le => 8,
-    }
-}
-
-fn turned(width: SwappedWidth) -> Instruction
-    ensures { result ≡ definitions.turned width }
-{
-    Instruction::Unary(Change::Order(ByteOrder::BigEndian, width), ANSWER, ANSWER)
-}
-
-/// The bytes of r0 as the layout orders them; one instruction of each layout.
-fn ordered(layout: Layout) -> Instruction
-    ensures { result ≡ definitions.ordered layout }
-{
-    match layout {
-        Layout::Byte | Layout::U16Le | Layout::U32Le | Layout::U64Le => copy(ANSWER, ANSWER),
-        Layout::U16Be => turned(SwappedWidth::Bits16),
-        Layout::U32Be => turned(SwappedWidth::Bits32),
-        Layout::U64Be => turned(SwappedWidth::Bits64),
-    }
-}
-
 /// The number that bytes of a part are, which are first copied to the stack.
 #[tactic(auto, unfolding(crate::specs::Terms::layout_code))]
 fn put_layout(
@@ -131,6 +88,24 @@ fn put_layout(
     ])
 }
 
+/// The number that bytes of a part are, which are read in the value where a load can name them.
+#[tactic(auto, unfolding(crate::specs::Terms::part_number_code))]
+fn put_layout_of(
+    code: &mut Vec<Instruction>,
+    layout: Layout,
+    part: &Part,
+    place: u32,
+) -> Result<(), AllocError>
+    requires part { FitsPart FitsText part.now }
+    requires place { place ≤ 1048576 }
+    ensures { OnOk result (code.new.items ≡ code.old.items ++ instructions (definitions.part_number_code layout part.now place)) }
+{
+    match part {
+        Part::Value if place < REACH => put_value_number(code, layout, place),
+        Part::Value | Part::Key | Part::Header(_) => put_layout(code, layout, part, place),
+    }
+}
+
 /// A term.
 #[tactic(auto, unfolding(crate::specs::Terms::term_code))]
 pub fn put_term(code: &mut Vec<Instruction>, term: &Term) -> Result<(), AllocError>
@@ -139,7 +114,7 @@ pub fn put_term(code: &mut Vec<Instruction>, term: &Term) -> Result<(), AllocErr
 {
     match term {
         Term::Length(part) => put_count(code, part),
-        Term::Number(layout, part, place) => put_layout(code, *layout, part, *place),
+        Term::Number(layout, part, place) => put_layout_of(code, *layout, part, *place),
         Term::Decimal(part, place, count) => put_decimal(code, part, *place, *count),
         Term::Offset => put_answer(code, 7),
         Term::Timestamp => put_answer(code, 8),

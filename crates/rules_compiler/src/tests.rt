@@ -14,6 +14,7 @@ use crate::pieces::{
 };
 use crate::searches::put_has;
 use crate::terms::put_term;
+use crate::values::{is_short, put_value_test};
 use machine_spec::{Instruction, Operation, Source, Width};
 use rules::{Comparison, Part, Term, Test, Text};
 use std::alloc::{AllocError, Global};
@@ -67,6 +68,37 @@ fn put_text_test(
     put_text(code, NEAR, &text.bytes)?;
     code.extend_from_slice(&stands(text.bytes.len()))?;
     code.extend_from_slice(&[skip_if(how, ANSWER, number as i32, 1), set(TRUTH, 0)])
+}
+
+/// Whether a part is a text.
+#[tactic(auto, unfolding(crate::specs::Tests::equal_code))]
+fn put_equal(code: &mut Vec<Instruction>, part: &Part, text: &Text) -> Result<(), AllocError>
+    requires part { FitsPart FitsText part.now }
+    requires text { FitsText text.now }
+    ensures { OnOk result (code.new.items ≡ code.old.items ++ instructions (definitions.equal_code part.now text.now)) }
+{
+    match part {
+        Part::Value if is_short(text) => put_value_test(code, text, machine_spec::Test::NotEqual),
+        Part::Value | Part::Key | Part::Header(_) => {
+            let number = text.bytes.len() + 2;
+            put_text_test(code, part, text, machine_spec::Test::Equal, number)
+        }
+    }
+}
+
+/// Whether a part begins with a text.
+#[tactic(auto, unfolding(crate::specs::Tests::begins_code))]
+fn put_begins(code: &mut Vec<Instruction>, part: &Part, text: &Text) -> Result<(), AllocError>
+    requires part { FitsPart FitsText part.now }
+    requires text { FitsText text.now }
+    ensures { OnOk result (code.new.items ≡ code.old.items ++ instructions (definitions.begins_code part.now text.now)) }
+{
+    match part {
+        Part::Value if is_short(text) => put_value_test(code, text, machine_spec::Test::Less),
+        Part::Value | Part::Key | Part::Header(_) => {
+            put_text_test(code, part, text, machine_spec::Test::GreaterOrEqual, 2)
+        }
+    }
 }
 
 /// The test of a jump that is taken where a comparison holds.
@@ -126,13 +158,8 @@ pub fn put_test(alloc: Global, code: &mut Vec<Instruction>, test: &Test) -> Resu
     match test {
         Test::Null(part) => put_length_test(code, part, 1)?,
         Test::Absent(part) => put_length_test(code, part, 0)?,
-        Test::Equal(part, text) => {
-            let number = text.bytes.len() + 2;
-            put_text_test(code, part, text, machine_spec::Test::Equal, number)?
-        }
-        Test::Begins(part, text) => {
-            put_text_test(code, part, text, machine_spec::Test::GreaterOrEqual, 2)?
-        }
+        Test::Equal(part, text) => put_equal(code, part, text)?,
+        Test::Begins(part, text) => put_begins(code, part, text)?,
         Test::Has(part, text) => put_has(alloc, code, part, text)?,
         Test::Compare(term, how, number) => put_compare(alloc, code, term, *how, *number)?,
     }

@@ -1,0 +1,101 @@
+//! What is read in the value itself, where a call would take longer.
+
+ghost use Rattle.std.specs.Prelude.{◌≡◌, ◌+◌, ◌<◌, ◌≤◌, ◌++◌, length, OnOk};
+ghost use Rattle.rules.specs.Limits.{FitsText};
+ghost use Rattle.rules_compiler.specs.Code.{instructions};
+ghost use Rattle.rules_compiler.specs.Terms as numbers;
+ghost use Rattle.rules_compiler.specs.Tests as definitions;
+
+use crate::loads::{layout_size, ordered, size_of};
+use crate::pieces::{ANSWER, LENGTH, TRUTH, VALUE, set, skip_if};
+use machine_spec::{Extension, Instruction, Size, Test};
+use rules::{Layout, Text};
+use std::alloc::AllocError;
+
+/// The longest text that is compared byte by byte.
+pub const SHORT: usize = 16;
+
+/// The places that a load can name.
+pub const REACH: u32 = 32_768;
+
+/// Whether a text is compared with the value byte by byte.
+pub fn is_short(text: &Text) -> bool
+    ensures { result ≡ definitions.is_short text.now }
+{
+    !text.bytes.is_empty() && text.bytes.len() <= SHORT
+}
+
+/// A byte of the value is compared, after which so many others are.
+fn put_byte(
+    code: &mut Vec<Instruction>,
+    place: usize,
+    byte: u8,
+    left: usize,
+) -> Result<(), AllocError>
+    requires place { place ≤ 255 }
+    requires left { left ≤ 255 }
+    ensures { OnOk result (code.new.items ≡ code.old.items ++ definitions.match_byte place byte left) }
+{
+    code.extend_from_slice(&[
+        Instruction::Load(Size::Byte, Extension::Zero, ANSWER, VALUE, place as i16),
+        skip_if(
+            Test::NotEqual,
+            ANSWER,
+            i32::from(byte),
+            (2 * left + 1) as i16,
+        ),
+    ])
+}
+
+/// r8 gets 1 where the value begins with a text.
+#[tactic(auto, using(crate::proofs::Lengths::match_end), unfolding(crate::specs::Tests::match_code))]
+fn put_match(code: &mut Vec<Instruction>, text: &[u8]) -> Result<(), AllocError>
+    requires { length text.now ≤ 255 }
+    ensures { OnOk result (code.new.items ≡ code.old.items ++ instructions (definitions.match_code text.now 0)) }
+{
+    for k in 0..text.len() {
+        put_byte(code, k, text[k], text.len() - k - 1)?;
+    }
+    code.push(set(TRUTH, 1))?;
+    Ok(())
+}
+
+/// Whether the value begins with a text, and its length compared with the text's fails a test.
+#[tactic(auto, using(crate::proofs::Lengths::value_test_is))]
+pub fn put_value_test(code: &mut Vec<Instruction>, text: &Text, how: Test) -> Result<(), AllocError>
+    requires { FitsText text.now }
+    ensures { OnOk result (code.new.items ≡ code.old.items ++ instructions (definitions.value_test_code text.now how)) }
+{
+    let size = text.bytes.len();
+    code.extend_from_slice(&[
+        set(TRUTH, 0),
+        skip_if(how, LENGTH, size as i32, (2 * size + 1) as i16),
+    ])?;
+    put_match(code, &text.bytes)
+}
+
+/// The number that bytes of the value are.
+#[tactic(auto, unfolding(crate::specs::Terms::value_number_code))]
+pub fn put_value_number(
+    code: &mut Vec<Instruction>,
+    layout: Layout,
+    place: u32,
+) -> Result<(), AllocError>
+    requires { place < REACH }
+    ensures { OnOk result (code.new.items ≡ code.old.items ++ instructions (numbers.value_number_code layout place)) }
+{
+    code.extend_from_slice(&[
+        set(ANSWER, 0),
+        set(TRUTH, 0),
+        skip_if(Test::Less, LENGTH, place as i32 + layout_size(layout), 3),
+        Instruction::Load(
+            size_of(layout),
+            Extension::Zero,
+            ANSWER,
+            VALUE,
+            place as i16,
+        ),
+        ordered(layout),
+        set(TRUTH, 1),
+    ])
+}
