@@ -6,4 +6,5 @@ pub mod Calls
 pub mod Outcomes
 pub mod Texts
 pub mod Explained
+pub mod Compiled
 pub mod Batches

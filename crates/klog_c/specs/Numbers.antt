@@ -7,6 +7,12 @@ use Rattle.wire_spec.specs.declared.fault.BatchFault.{BatchFault}
 use Rattle.wire_spec.specs.declared.fault.BatchFault.TheVariants as fault
 use Rattle.program_file.specs.declared.fault.FileFault.{FileFault}
 use Rattle.program_file.specs.declared.fault.FileFault.TheVariants as file
+use Rattle.rules.specs.declared.fault.RuleFault.{RuleFault}
+use Rattle.rules.specs.declared.fault.RuleFault.TheVariants as rule
+use Rattle.rules_compiler.specs.declared.fault.CompileFault.{CompileFault}
+use Rattle.rules_compiler.specs.declared.fault.CompileFault.TheVariants as compile
+use Rattle.rules_compiler.specs.declared.text.TextFault.{TextFault}
+use Rattle.rules_compiler.specs.declared.text.TextFault.TheVariants as text
 use Rattle.transform.specs.declared.memory.Stop.{Stop}
 use Rattle.transform.specs.declared.memory.Stop.TheVariants as stop
 
@@ -45,6 +51,30 @@ file_number file.Version = 402
 file_number file.Table = 403
 file_number file.Lines = 404
 file_number file.Memory = 1
+
+-- the number of a fault of a line of rules: E1 to E7 are 501 to 507; 1 where memory ran out
+abbrev pub rule_number : RuleFault → ℕ
+rule_number (rule.Word spot) = 501
+rule_number (rule.Number spot) = 502
+rule_number (rule.Text spot) = 503
+rule_number (rule.Long spot) = 504
+rule_number (rule.Deep spot) = 505
+rule_number (rule.Many spot) = 506
+rule_number (rule.End spot) = 507
+rule_number rule.Memory = 1
+
+-- the number of a fault of rules that are not compiled, and the rule that it is about: E9 and E10 are 509 and 510.
+-- Where memory ran out it is 1, and about no rule.
+abbrev pub compile_told : CompileFault → ℕ × ℕ
+compile_told (compile.Header number) = (510, number)
+compile_told (compile.Slots number) = (509, number)
+compile_told compile.Memory = (1, 0)
+
+-- the number of a fault of a text of rules; 1 where memory ran out
+abbrev pub text_number : TextFault → ℕ
+text_number (text.Line fault) = rule_number fault
+text_number (text.Rules fault) = (compile_told fault).0
+text_number text.Memory = 1
 
 -- Of a refusal of an image: I1 to I6 are 101 to 106, V1 to V13 are 201 to 213. Where memory ran out it is 1.
 abbrev pub fault_number : LoadFault → ℕ

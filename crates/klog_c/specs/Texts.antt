@@ -3,13 +3,22 @@ use Rattle.std.specs.Prelude.{◌≡◌, ℕ, ◌⊎◌, ◌==◌, ◌&&◌, nat
 use Rattle.klog_c.specs.declared.faults.TheConstants.{MEMORY}
 use Rattle.c_outcomes.specs.Outcomes.{Copies}
 
--- the name of a fault of a program file; `no fault` for every other number
+-- the name of a fault of a text of rules; `no fault` for every other number
+abbrev pub rule_fault_name : ℕ → List ℕ
+rule_fault_name n =
+    if n == 501 then codes "E1 Word" else if n == 502 then codes "E2 Number" else
+    if n == 503 then codes "E3 Text" else if n == 504 then codes "E4 Long" else
+    if n == 505 then codes "E5 Deep" else if n == 506 then codes "E6 Many" else
+    if n == 507 then codes "E7 End" else if n == 509 then codes "E9 Slots" else
+    if n == 510 then codes "E10 Header" else codes "no fault"
+
+-- the name of a fault of a program file, or of a text of rules
 abbrev pub file_fault_name : ℕ → List ℕ
 file_fault_name n =
     if n == 401 then codes "G1 Short" else if n == 402 then codes "G2 Version" else
-    if n == 403 then codes "G3 Table" else if n == 404 then codes "G4 Lines" else codes "no fault"
+    if n == 403 then codes "G3 Table" else if n == 404 then codes "G4 Lines" else rule_fault_name n
 
--- the name of a fault of a batch, or of a program file
+-- the name of a fault of a batch, or of one of the kinds above
 abbrev pub batch_fault_name : ℕ → List ℕ
 batch_fault_name n =
     if n == 301 then codes "B1 Short" else if n == 302 then codes "B2 Length" else
@@ -18,7 +27,7 @@ batch_fault_name n =
     if n == 307 then codes "B7 Count" else if n == 308 then codes "B8 Record" else
     if n == 309 then codes "B9 Timestamp" else file_fault_name n
 
--- the name of a fault of an image without code, of a batch or of a program file
+-- the name of a fault of an image without code, or of one of the kinds above
 abbrev pub image_fault_name : ℕ → List ℕ
 image_fault_name n =
     if n == 101 then codes "I1 Size" else if n == 102 then codes "I2 Opcode" else
@@ -51,11 +60,13 @@ name_of n =
     if n == 8 then codes "a header's key is not UTF-8" else
     if n == 9 then codes "the rows take more bytes than the limit" else check_name n
 
--- an image's faults but its size's are at a slot, the verifier's at an instruction, and one of a batch's at a record
+-- an image's faults but its size's are at a slot, the verifier's at an instruction, one of a batch's at a record, and
+-- those of a line of rules at a column
 abbrev pub place_word : ℕ → List ℕ
 place_word n =
     if nat_le 102 n && nat_le n 106 then codes " slot " else
-    if nat_le 201 n && nat_le n 213 then codes " at " else if n == 308 then codes " record " else []
+    if nat_le 201 n && nat_le n 213 then codes " at " else if n == 308 then codes " record " else
+    if nat_le 501 n && nat_le n 507 then codes " at column " else []
 
 -- a name, and after it a word with a place; the name alone where the word is empty
 abbrev pub with_place : List ℕ → List ℕ → ℕ → List ℕ

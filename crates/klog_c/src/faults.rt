@@ -6,6 +6,8 @@ ghost use Rattle.klog_c.specs.Numbers as definitions;
 pub(crate) use c_outcomes::{OK, RANGE};
 use machine_spec::IsaFault;
 use program_file::FileFault;
+use rules::RuleFault;
+use rules_compiler::CompileFault;
 use transform::Stop;
 use verifier_spec::{Check, LoadFault, VerifyFault};
 use wire_spec::BatchFault;
@@ -75,6 +77,34 @@ pub(crate) fn file_number(fault: FileFault) -> u32
         FileFault::Table => 403,
         FileFault::Lines => 404,
         FileFault::Memory => MEMORY,
+    }
+}
+
+/// The number of a fault of a line of rules: E1 to E7 are 501 to 507.
+pub(crate) fn rule_number(fault: RuleFault) -> u32
+    ensures { result ≡ definitions.rule_number fault }
+{
+    match fault {
+        RuleFault::Word(_) => 501,
+        RuleFault::Number(_) => 502,
+        RuleFault::Text(_) => 503,
+        RuleFault::Long(_) => 504,
+        RuleFault::Deep(_) => 505,
+        RuleFault::Many(_) => 506,
+        RuleFault::End(_) => 507,
+        RuleFault::Memory => MEMORY,
+    }
+}
+
+/// The number of a fault of rules that are not compiled, and the rule that it is about; 0 where it is about none. E9 and
+/// E10 are 509 and 510.
+pub(crate) fn compile_told(fault: CompileFault) -> (u32, usize)
+    ensures { result ≡ definitions.compile_told fault }
+{
+    match fault {
+        CompileFault::Header(rule) => (510, rule),
+        CompileFault::Slots(rule) => (509, rule),
+        CompileFault::Memory => (MEMORY, 0),
     }
 }
 

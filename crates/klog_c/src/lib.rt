@@ -1,10 +1,11 @@
-//! The library for C: a program is loaded from its image, and runs on records and record batches. C holds
-//! handles: a `klog_handle` of zeros is one of nothing.
+//! The library for C: a program is loaded from its image, or compiled from rules, and runs on records and record
+//! batches. C holds handles: a `klog_handle` of zeros is one of nothing.
 #![tactic(auto)]
 
 ghost use Rattle.std.specs.Prelude.{◌≡◌, None};
 
 mod batches;
+mod compiling;
 mod explaining;
 mod faults;
 mod filling;

@@ -1,10 +1,12 @@
-//! Exports on programs: loads, texts of faults, explanations.
+//! Exports on programs: loads, compiled rules, texts of faults, explanations.
 
 ghost use Rattle.std.specs.Prelude.{◌≡◌};
 ghost use Rattle.klog_c.specs.Calls.{Loads, Shares, given_with, program_in, text_in};
+ghost use Rattle.klog_c.specs.Compiled.{Compiles};
 ghost use Rattle.klog_c.specs.Explained.{Explained, CopiesText};
 ghost use Rattle.klog_c.specs.Texts.{Writes, fault_text};
 
+use crate::compiling::{RuleSpot, compile_into};
 use crate::explaining::{copy_text, explain_into};
 use crate::handle::Handle;
 use crate::object::{program_of, text_of};
@@ -26,6 +28,21 @@ pub extern "C" fn klog_c_load(
     ensures { Loads (given_with bytes.now table) program.old.place.object program.new.place.object place.old place.new result }
 {
     load_into(alloc, bytes, table, program, place)
+}
+
+/// Compiles a text of rules: writes the bytes of its program file, which `klog_c_load` loads, at the front of a buffer,
+/// and their length, also where the buffer is too short. Where the text is refused, `spot` is then where.
+#[unsafe(no_mangle)]
+pub extern "C" fn klog_c_compile(
+    alloc: Global,
+    text: &[u8],
+    buffer: &mut [u8],
+    length: &mut usize,
+    spot: &mut RuleSpot,
+) -> u32
+    ensures { Compiles text.now buffer.old buffer.new length.old length.new spot.old spot.new result }
+{
+    compile_into(alloc, text, buffer, length, spot)
 }
 
 /// Writes the text of a fault at the front of a buffer, and its length, also where the buffer is too

@@ -52,6 +52,15 @@ fn name_of(number: u32) -> &'static str
         402 => "G2 Version",
         403 => "G3 Table",
         404 => "G4 Lines",
+        501 => "E1 Word",
+        502 => "E2 Number",
+        503 => "E3 Text",
+        504 => "E4 Long",
+        505 => "E5 Deep",
+        506 => "E6 Many",
+        507 => "E7 End",
+        509 => "E9 Slots",
+        510 => "E10 Header",
         _ => "no fault",
     }
 }
@@ -64,6 +73,7 @@ fn place_word(number: u32) -> &'static str
         102..=106 => " slot ",
         201..=213 => " at ",
         308 => " record ",
+        501..=507 => " at column ",
         _ => "",
     }
 }
