@@ -172,6 +172,67 @@ static uint32_t call_load(void)
 	return told(fault, !to || !has_place || (is_null && given));
 }
 
+/* A text of rules, mostly of the list and sometimes changed or cut, or the bytes of the input. */
+static uint8_t *some_rules(size_t *length)
+{
+	uint8_t bytes[LONGEST_SAMPLE], choice = byte();
+	if (choice >= 200) {
+		*length = byte();
+		return block(*length);
+	}
+	*length = sample_rules(choice, bytes);
+	if (*length && chance(60))
+		bytes[byte() % *length] = byte();
+	if (chance(30))
+		*length = byte() % (*length + 1);
+	return copy_of(bytes, *length);
+}
+
+/* What a compiled text is, is loaded. */
+static void load_compiled(const uint8_t *file, size_t length)
+{
+	klog_handle program = KLOG_NOTHING;
+	size_t place;
+	uint32_t fault = klog_load(file, length, KLOG_TABLE_OWN, &program, &place);
+	if (fault && fault != KLOG_MEMORY)
+		fail("compiled rules that are refused", fault);
+	klog_free(&program);
+}
+
+/* What a compile leaves as it was: the buffer behind what was written, and the spot unless the text is refused. */
+static void look_at_compiled(uint32_t fault, size_t written, size_t space, const klog_spot *spot, const uint8_t *buffer,
+			     const uint8_t *before)
+{
+	bool is_refused = fault > KLOG_RULES, is_same = spot->line == 7777 && spot->column == 7777 && spot->rule == 7777;
+	size_t used = fault ? 0 : written;
+	if (used > space || memcmp(buffer + used, before + used, space - used))
+		fail("a buffer that changed", fault);
+	if (fault == KLOG_ROOM ? written <= space || written > KLOG_COMPILED : fault && written != 7777)
+		fail("a length that was written", written);
+	if (is_refused == is_same || (is_refused && (spot->line && spot->column) == (spot->rule != 0)))
+		fail("the spot of a text", spot->line);
+}
+
+static uint32_t call_compile(void)
+{
+	size_t length, space = room(), written = 7777;
+	klog_spot spot = {7777, 7777, 7777};
+	uint8_t *text = some_rules(&length), *buffer = block(space), *before = copy_of(buffer, space);
+	bool is_null = chance(8), has_written = !chance(5), has_spot = !chance(5);
+	size_t given = stated(length, PTRDIFF_MAX);
+	uint8_t *to = chance(8) ? NULL : buffer;
+	uint32_t fault = klog_compile(is_null ? NULL : text, given, to, space, has_written ? &written : NULL,
+				      has_spot ? &spot : NULL);
+	if (has_written && has_spot)
+		look_at_compiled(fault, written, space, &spot, buffer, before);
+	if (!fault)
+		load_compiled(buffer, written);
+	free(before);
+	free(buffer);
+	free(text);
+	return told(fault, !has_written || !has_spot || (is_null && given) || (!to && space));
+}
+
 static uint32_t call_fault_text(void)
 {
 	size_t length = 9, space = number() % 300;
@@ -372,7 +433,7 @@ static uint32_t (*const calls[])(void) = {
 	call_load,   call_load,   call_fault_text, call_share, call_transform, call_transform, call_counts,
 	call_reject, call_output, call_add_header, call_run,   call_run,       call_outcome,   call_emission,
 	call_copy,   call_copy,   call_copy,       call_text,  call_explain,   call_free,      call_emission_header,
-	call_version,
+	call_version, call_compile,
 };
 
 static bool is_fault(uint32_t number_of)
@@ -380,7 +441,9 @@ static bool is_fault(uint32_t number_of)
 	return (number_of >= KLOG_MEMORY && number_of < KLOG_IMAGE) ||
 	       (number_of > KLOG_IMAGE && number_of <= KLOG_IMAGE + 6) ||
 	       (number_of > KLOG_VERIFIER && number_of <= KLOG_VERIFIER + 13) ||
-	       (number_of > KLOG_BATCH && number_of <= KLOG_BATCH + 9) || (number_of > KLOG_FILE && number_of <= KLOG_FILE + 4);
+	       (number_of > KLOG_BATCH && number_of <= KLOG_BATCH + 9) ||
+	       (number_of > KLOG_FILE && number_of <= KLOG_FILE + 4) ||
+	       (number_of > KLOG_RULES && number_of <= KLOG_RULES + 10 && number_of != KLOG_RULES + 8);
 }
 
 static void call_one(void)

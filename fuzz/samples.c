@@ -35,6 +35,24 @@ static const char *const images[] = {
 	"b705000001000000" "8500000015000000" "b700000000000000" "9500000000000000",
 };
 
+static const char *const rules[] = {
+	"",
+	"# none\n",
+	"output 2",
+	"drop 7 when not (key is null or length(value) > 9)\noutput hash(key) % 4\n",
+	"output 1 when header \"region\" = \"eu\"\n\noutput 2 when value begins \"{\" and value has \"\\\"a\\\":\"",
+	"tombstone 0 when u32be(value, 1) = 0x7 or timestamp < 1764547200000",
+	"output 3 value[5..] when byte(value, 0) = 0\noutput 0 header \"h\"[1..2]",
+	"output 4 with value[4..12] = \"********\" when decimal(key, 0, 4) >= 1000",
+	"drop 0",
+	"output 64",
+	"drop when",
+	"drop when key = \"a",
+	"drop when key = \"\\x0\"",
+	"output 1 and header \"by\" = \"klog\"",
+	"drop when not not not not not not not not not not not not not not not not not not key is absent",
+};
+
 static const char batch_text[] =
 	"0000000000000000" "0000004f" "00000000" "02" "00000000" "0000" "00000001" "00000000000003e8" "00000000000003ed"
 	"ffffffffffffffff" "ffff" "ffffffff" "00000002"
@@ -57,6 +75,14 @@ static size_t bytes_of(const char *text, uint8_t *bytes)
 size_t sample_image(unsigned choice, uint8_t *bytes)
 {
 	return bytes_of(images[choice % (sizeof images / sizeof images[0])], bytes);
+}
+
+size_t sample_rules(unsigned choice, uint8_t *bytes)
+{
+	const char *text = rules[choice % (sizeof rules / sizeof rules[0])];
+	size_t length = strlen(text);
+	memcpy(bytes, text, length);
+	return length;
 }
 
 size_t sample_batch(uint8_t *bytes)

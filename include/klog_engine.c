@@ -24,6 +24,8 @@ struct source {
 };
 
 uint32_t klog_c_load(const uint8_t *bytes, size_t length, uint32_t table, klog_handle *program, size_t *place);
+uint32_t klog_c_compile(const uint8_t *text, size_t length, uint8_t *buffer, size_t room, size_t *written,
+			klog_spot *spot);
 uint32_t klog_c_fault_text(uint32_t fault, size_t place, uint8_t *buffer, size_t room, size_t *length);
 uint32_t klog_c_share(klog_handle *program, klog_handle *other);
 uint32_t klog_c_add_header(klog_handle *headers, const uint8_t *key, size_t key_length, const uint8_t *value,
@@ -115,6 +117,16 @@ uint32_t klog_load(const uint8_t *bytes, size_t length, uint32_t table, klog_han
 		return size_fault;
 	}
 	return klog_c_load(bytes ? bytes : no_bytes, length, table, program, place);
+}
+
+uint32_t klog_compile(const uint8_t *text, size_t length, uint8_t *buffer, size_t room, size_t *written, klog_spot *spot)
+{
+	uint32_t number = !written || !spot || is_no_buffer(text, length) ? KLOG_NULL : buffer_fault(buffer, room);
+	if (number)
+		return number;
+	if (length > longest_buffer)
+		return KLOG_RANGE;
+	return klog_c_compile(text ? text : no_bytes, length, buffer ? buffer : no_bytes, room, written, spot);
 }
 
 uint32_t klog_fault_text(uint32_t fault, size_t place, char *buffer, size_t room, size_t *length)

@@ -1,10 +1,10 @@
 /* klog's engine as a library: load an eBPF program once, run it on record batches or on single records.
  *
  * A program is loaded from its image, as `klog asm` or `tools/klogc/klogc` makes it, or from a program file, which
- * begins with the bytes KLOG and has the image's helper table beside it (docs/reference/machine.md). A load accepts exactly
- * the images that the verifier accepts, and what it accepts runs without a trap, within as many instructions as it
- * has, and reads nothing but its record and its stack. docs/guide/library.md says what is proved of a call, and what
- * the caller owes.
+ * begins with the bytes KLOG and has the image's helper table beside it (docs/reference/machine.md). klog_compile makes
+ * a program file of rules (docs/guide/rules.md). A load accepts exactly the images that the verifier accepts, and what it
+ * accepts runs without a trap, within as many instructions as it has, and reads nothing but its record and its stack.
+ * docs/guide/library.md says what is proved of a call, and what the caller owes.
  *
  * Every function but klog_version and klog_free returns a number: KLOG_OK, or why it did nothing. After another number
  * than KLOG_OK each handle and each buffer is as it was.
@@ -34,8 +34,9 @@ extern "C" {
 
 /* What a call returns. Of a refused image it is 101 to 106, the faults I1 to I6, at a slot of 8 bytes of the
  * image, or 201 to 213, the faults V1 to V13, at an instruction. Of a refused record batch it is 301 to 309, the
- * faults B1 to B9, and of a refused program file 401 to 404, the faults G1 to G4. docs/reference/faults.md has their causes and
- * cures. */
+ * faults B1 to B9, and of a refused program file 401 to 404, the faults G1 to G4. Of a refused text of rules it is 501 to
+ * 507, the faults E1 to E7, at a line and a column, or 509 or 510, E9 or E10, of a rule. docs/reference/faults.md has their
+ * causes and cures. */
 enum {
 	KLOG_OK = 0,
 	KLOG_MEMORY = 1, /* memory ran out */
@@ -50,7 +51,8 @@ enum {
 	KLOG_IMAGE = 100,
 	KLOG_VERIFIER = 200,
 	KLOG_BATCH = 300,
-	KLOG_FILE = 400
+	KLOG_FILE = 400,
+	KLOG_RULES = 500
 };
 
 /* Bits of klog_emission.nulls and of klog_header.nulls. */
@@ -68,6 +70,9 @@ enum { KLOG_VERSION = 1001 };
 /* The most emissions of one record, and the most headers. */
 enum { KLOG_EMISSIONS = 16, KLOG_HEADERS = 16 };
 
+/* The most bytes of a program file that klog_compile makes: 16 and 16,384 slots of 8 bytes. */
+enum { KLOG_COMPILED = 131088 };
+
 /* A program, batches, headers, an outcome, a text, or nothing. */
 typedef struct klog_handle {
 	unsigned char *at;
@@ -75,6 +80,13 @@ typedef struct klog_handle {
 } klog_handle;
 
 #define KLOG_NOTHING {0, 0}
+
+/* Where a text of rules is refused. */
+typedef struct klog_spot {
+	size_t line;   /* of the faults 501 to 507, the line that can't go on, from 1; else 0 */
+	size_t column; /* and the byte of it at which it can't, from 1; else 0 */
+	size_t rule;   /* of the faults 509 and 510, the rule, from 1; else 0 */
+} klog_spot;
 
 /* Where record batches are. */
 typedef struct klog_source {
@@ -149,10 +161,18 @@ typedef struct klog_header {
  * is 101, the first four bytes alone are read. */
 uint32_t klog_load(const uint8_t *bytes, size_t length, uint32_t table, klog_handle *program, size_t *place);
 
+/* Compiles the rules of a text of `length` bytes, and writes the program file that `klog rule` makes of them to the front of
+ * a buffer of `room` bytes, of which the rest is as it was, and its length to `*written`. klog_load accepts it by
+ * KLOG_TABLE_OWN, and the program means what the rules say (docs/guide/rules.md). Of a refused text the number is 501 to
+ * 507, 509 or 510, and `*spot` is then where; else `*spot` is as it was. KLOG_ROOM: the buffer is too short; `*written` is
+ * what it needs. KLOG_COMPILED bytes are enough for each text. KLOG_NULL: `written` or `spot` is null, or `text` or `buffer`
+ * is null and its length is not 0. KLOG_MEMORY. */
+uint32_t klog_compile(const uint8_t *text, size_t length, uint8_t *buffer, size_t room, size_t *written, klog_spot *spot);
+
 /* Writes the text of a fault as `klog` prints it ("I3 Register slot 0", "V7 RecordBounds at 2") to the front of a
  * buffer of `room` bytes, with no zero byte at its end, and its length to `*length`. `place` is what klog_load
- * gave, or the record of klog_transform's stop ("B8 Record record 1"). KLOG_ROOM: the buffer is too short; `*length`
- * is what it needs. 64 bytes are enough for each text. KLOG_NULL: `length` is null, or `buffer` is null and `room` is
+ * gave, the record of klog_transform's stop ("B8 Record record 1"), or the column of klog_compile's spot ("E1 Word at
+ * column 8"). KLOG_ROOM: the buffer is too short; `*length` is what it needs. 64 bytes are enough for each text. KLOG_NULL: `length` is null, or `buffer` is null and `room` is
  * not 0. KLOG_MEMORY. */
 uint32_t klog_fault_text(uint32_t fault, size_t place, char *buffer, size_t room, size_t *length);
 

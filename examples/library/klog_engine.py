@@ -3,6 +3,8 @@
     with Program(Engine("libklog.so"), image) as program:
         code, emissions = program.run(key, value, headers=[(b"trace", b"7f")])
         made = program.transform(batches, offset=0, outputs=2)
+
+An image may be a program file too, as `engine.compile(b'drop when value = ""')` is one.
 """
 import ctypes
 from collections import namedtuple
@@ -10,7 +12,8 @@ from ctypes import POINTER, byref, c_size_t, c_uint32, c_uint64
 
 BYTES = ctypes.c_char_p
 NULL_KEY, NULL_VALUE = 1, 2
-FULL, BATCH = 7, 300
+FULL, BATCH, RULES = 7, 300, 500
+MOST_COMPILED = 131088
 UNLIMITED = 2**64 - 1
 MOST_KEY, MOST_VALUE = 4096, 1048576
 MOST_HEADER_KEY, MOST_HEADER_VALUE = 255, 4096
@@ -33,6 +36,10 @@ class Emission(ctypes.Structure):
 
 class Header(ctypes.Structure):
     _fields_ = [("key_length", c_size_t), ("value_length", c_size_t), ("nulls", c_uint32)]
+
+
+class Spot(ctypes.Structure):
+    _fields_ = [("line", c_size_t), ("column", c_size_t), ("rule", c_size_t)]
 
 
 class Source(ctypes.Structure):
@@ -80,6 +87,7 @@ class Engine:
         self.library = ctypes.CDLL(name)
         handle = POINTER(Handle)
         self.declare("klog_load", BYTES, c_size_t, c_uint32, handle, POINTER(c_size_t))
+        self.declare("klog_compile", BYTES, c_size_t, BYTES, c_size_t, POINTER(c_size_t), POINTER(Spot))
         self.declare("klog_fault_text", c_uint32, c_size_t, BYTES, c_size_t, POINTER(c_size_t))
         self.declare("klog_share", handle, handle)
         self.declare("klog_add_header", handle, BYTES, c_size_t, BYTES, c_size_t)
@@ -111,6 +119,16 @@ class Engine:
     def check(self, fault, place=0):
         if fault:
             raise Fault(self.text(fault, place))
+
+    def compile(self, rules):
+        """The program file of the rules in a text, for Program."""
+        file, written, spot = ctypes.create_string_buffer(MOST_COMPILED), c_size_t(), Spot()
+        fault = self.library.klog_compile(rules, len(rules), file, len(file), byref(written), byref(spot))
+        if fault > RULES:
+            where = f"rule {spot.rule}" if spot.rule else f"line {spot.line}"
+            raise Fault(f"{where}: {self.text(fault, spot.column)}")
+        self.check(fault)
+        return file.raw[:written.value]
 
 
 class Program:

@@ -9,6 +9,7 @@ fi
 here=$(cd "$(dirname "$0")" && pwd)
 folder=$(cd "$1" && pwd)
 image=$here/../c/filter_first_byte.bin
+rules=$here/../rules/route_by_first_byte.rules
 batches=$here/../orders.log
 text='A first line
 B second line
@@ -19,8 +20,11 @@ A third line'
 	-o "$folder/lines"
 "${CC:-cc}" -std=c99 -O2 -Wall -Wextra -pedantic -Werror -I"$folder" "$here/segment.c" "$folder/libklog.a" \
 	-o "$folder/segment"
+"${CC:-cc}" -std=c99 -O2 -Wall -Wextra -pedantic -Werror -I"$folder" "$here/rules.c" "$folder/libklog.a" \
+	-o "$folder/rules"
 echo "C:"
 echo "$text" | "$folder/lines" "$image"
+echo "$text" | "$folder/rules" "$rules"
 "$folder/segment" "$image" "$batches" "$folder/out_c"
 echo "Python:"
 echo "$text" | python3 "$here/lines.py" "$folder/libklog.so" "$image"

@@ -5,9 +5,10 @@ Not part of the build. With a folder that tools/build_library.sh made:
 
     tools/dev/compare_library.py FOLDER/libklog.so [COUNT [SEED [KLOG]]]
 
-Each program is loaded, and run on ten records with headers and on some record batches, some of them damaged. It prints
-the first image on which the fault's text, an outcome, an output's batches or the counts differ, and ends with status 1;
-else how many were compared. With KLOG, the program `klog`, each program is that of a script that appends some batches
+Each program is loaded, and run on ten records with headers and on some record batches, some of them damaged. After each a
+text of rules, some of them damaged, is compiled and run on ten records, beside rules_meaning.py. It prints the first image
+or text on which the fault's text, an outcome, an output's batches or the counts differ, and ends with status 1; else how
+many were compared. With KLOG, the program `klog`, each program is that of a script that appends some batches
 to one input: klog_run's outcomes on their records are compared with the rows and the counts of `klog run`.
 """
 import collections
@@ -19,7 +20,10 @@ import sys
 
 sys.path.insert(0, os.path.join(os.path.dirname(os.path.abspath(__file__)), "..", "..", "examples", "library"))
 
+import rules_meaning
+import rules_text
 from compare import accepted_image, some_batch, some_bytes, some_header, some_image
+from compare_rules import Maker
 from klog_engine import Engine, Fault, Program, Transformed
 from second_broker import Record, fetched, read_batch, spell
 from second_machine import HELPERS, Refused, decode, run, verify
@@ -175,6 +179,63 @@ def compare(rng, engine, image, table):
         return 0, 0, 0
 
 
+# ---- rules
+
+def some_rules(rng, maker):
+    """A text of rules, of which some bytes may be lost or others."""
+    text = bytearray(maker.rules(False).encode())
+    for _ in range(rng.choice([0, 0, 0, 1, 2])):
+        at = rng.randrange(len(text) + 1)
+        text[at:at + rng.choice([0, 1, 1, 9])] = rng.choice([b"", rng.choice([b'"', b"\n", b"(", b"x", b"#", b"\xff", b"drop"])])
+    return bytes(text)
+
+
+def plain_rules(text):
+    """The rules of a text, or what klog prints of its first fault."""
+    try:
+        return rules_text.parse(text), None
+    except rules_text.Fault as fault:
+        name, line, column = str(fault).rsplit(" ", 2)
+        return None, "line %s: %s at column %s" % (line, name, column)
+
+
+def some_record(maker):
+    """A record, whose headers have keys of UTF-8."""
+    record = maker.record()
+    headers = [(key.decode("utf-8", "ignore").encode(), value) for key, value in record.headers]
+    return rules_meaning.Record(record.key, record.value, headers)
+
+
+def rules_differ(program, rules, cases):
+    """Whether the program of rules and their plain reading give another outcome of a record."""
+    for record, at in cases:
+        end = rules_meaning.outcome(rules, record, at)
+        wanted = (end, []) if isinstance(end, int) else (0, [tuple(emitted) for emitted in end])
+        found = program.run(record.key, record.value, at.offset, at.timestamp, at.partition, at.outputs, record.headers)
+        if found != wanted:
+            print("%r at %r: %r, not %r" % (record, at, found, wanted))
+            return True
+    return False
+
+
+def compare_text(rng, maker, engine):
+    """Whether a text of rules was compiled, and the text; None in place of the first where something differs."""
+    maker.cases = [(some_record(maker), maker.place()) for _ in range(10)]
+    text = some_rules(rng, maker)
+    rules, fault = plain_rules(text)
+    try:
+        file = engine.compile(text)
+    except Fault as told:
+        if str(told) != fault:
+            print("%s, not %s" % (told, fault))
+        return (0 if str(told) == fault else None), text
+    if fault:
+        print("compiled, not %s" % fault)
+        return None, text
+    with Program(engine, file) as program:
+        return (None if rules_differ(program, rules, maker.cases) else 1), text
+
+
 # ---- beside `klog run`
 
 def broker(klog, image, table, batches, outputs):
@@ -236,7 +297,8 @@ def main():
     count = int(sys.argv[2]) if len(sys.argv) > 2 else 1000
     rng, engine = random.Random(int(sys.argv[3]) if len(sys.argv) > 3 else 1), Engine(sys.argv[1])
     klog = sys.argv[4] if len(sys.argv) > 4 else None
-    accepted = first = second = 0
+    maker, accepted, first, second, compiled = Maker(0), 0, 0, 0, 0
+    maker.random = rng
     for _ in range(count):
         table = rng.choice([1, 2] if klog else [1, 2, 3, 3])
         image = some_program(rng, table)
@@ -244,8 +306,15 @@ def main():
         if answer is None:
             sys.exit("table %d image %s" % (table, image.hex()))
         accepted, first, second = accepted + answer[0], first + answer[1], second + answer[2]
+        if not klog:
+            is_compiled, text = compare_text(rng, maker, engine)
+            if is_compiled is None:
+                sys.exit("rules %r" % text)
+            compiled += is_compiled
     what = "%d records and %d rows as `klog run` has them" if klog else "%d of their records kept, %d records in batches"
     print("%d programs, %d of them accepted, %s" % (count, accepted, what % (first, second)))
+    if not klog:
+        print("%d texts of rules, %d of them compiled" % (count, compiled))
 
 
 if __name__ == "__main__":

@@ -188,7 +188,7 @@ static void load(struct worker *w)
 
 static void fault_text(struct worker *w)
 {
-	static const uint32_t faults[] = {0, 1, 2, 3, 4, 5, 6, 7, 8, 9, 101, 102, 106, 107, 201, 213, 214, 301, 308, 309, 310, 401, 404, 405};
+	static const uint32_t faults[] = {0, 1, 2, 3, 4, 5, 6, 7, 8, 9, 101, 102, 106, 107, 201, 213, 214, 301, 308, 309, 310, 401, 404, 405, 501, 507, 508, 509, 510, 511};
 	size_t room = below(w, 80), length = 0;
 	char *text = (char *)block(w, room);
 	uint32_t of = one_in(w, 3) ? (uint32_t)number(w) : faults[below(w, sizeof faults / sizeof faults[0])];
@@ -199,6 +199,39 @@ static void fault_text(struct worker *w)
 	if (fault == KLOG_ROOM && length <= room)
 		fail("fault_text's length", fault);
 	free(text);
+}
+
+/* Compiles rules, of which a byte may be changed, into a buffer that may be too short. What is written is loaded. */
+static void compile(struct worker *w)
+{
+	static const char *const texts[] = {
+		"output 0\n",
+		"drop 7 when not (key is null or length(value) > 9) # a remark\noutput hash(key) % 4\n",
+		"output 1 when header \"a\" = \"b\"\ntombstone 2 when value has \"error\" and u32be(value, 1) >= 0x10\n",
+		"output 4 with value[4..12] = \"****\" when decimal(key, 0, 4) < 1000\noutput 3 value[5..]",
+	};
+	const char *from = texts[below(w, sizeof texts / sizeof texts[0])];
+	size_t length = strlen(from), room = below(w, one_in(w, 3) ? 200 : 6000), written = MARK, place = MARK;
+	uint8_t *text = block(w, length), *buffer = block(w, room);
+	memcpy(text, from, length);
+	if (one_in(w, 2))
+		text[below(w, length)] = (uint8_t)below(w, 128);
+	klog_spot spot = {MARK, MARK, MARK};
+	klog_handle program = KLOG_NOTHING;
+	uint32_t fault = klog_compile(one_in(w, 40) ? NULL : text, length, buffer, room, &written, one_in(w, 40) ? NULL : &spot);
+	bool is_refused = fault > KLOG_RULES && fault <= KLOG_RULES + 7;
+	if (fault && fault != KLOG_ROOM && fault != KLOG_NULL && !is_refused)
+		fail("compile", fault);
+	if (fault == KLOG_ROOM ? written <= room : fault ? written != MARK : written > room)
+		fail("compile's length", fault);
+	if (is_refused ? spot.line < 1 || spot.line > 3 || spot.column < 1 || spot.column > length + 1 || spot.rule
+		       : spot.line != MARK || spot.column != MARK || spot.rule != MARK)
+		fail("compile's spot", fault);
+	if (!fault && klog_load(buffer, written, KLOG_TABLE_OWN, &program, &place))
+		fail("load of compiled rules", fault);
+	klog_free(&program);
+	free(text);
+	free(buffer);
 }
 
 static void share(struct worker *w)
@@ -854,7 +887,7 @@ static void free_shared(void)
 
 static void *work(void *at)
 {
-	static void (*const calls[])(struct worker *) = {load, load, load, fault_text, share, explain,
+	static void (*const calls[])(struct worker *) = {load, load, load, compile, fault_text, share, explain,
 							 add_header, add_header, run, run, run, emissions, emissions,
 							 forward, transform, transform, outputs, forward_batch, read_shared,
 							 transform_within};

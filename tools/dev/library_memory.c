@@ -1,10 +1,10 @@
-/* Loads programs while memory is refused. tools/dev/refuse_each.py runs each test once for each request for memory that
- * it makes, with that one refused:
+/* Loads programs, and compiles rules, while memory is refused. tools/dev/refuse_each.py runs each test once for each request
+ * for memory that it makes, with that one refused:
  *	cc -std=c99 -IFOLDER tools/dev/library_memory.c FOLDER/libklog.a -o FOLDER/library_memory &&
  *		tools/dev/refuse_each.py FOLDER/library_memory
- * A load that is refused memory has to return KLOG_MEMORY, to leave its handle and `*place` as they were, and to do its
- * work when it is made again; with no request refused it has to do so at once. `--list` prints the names of the tests,
- * and a name runs one. */
+ * A call that is refused memory has to return KLOG_MEMORY, to leave its handle or its buffer, and what it tells, as they
+ * were, and to do its work when it is made again; with no request refused it has to do so at once. `--list` prints the names
+ * of the tests, and a name runs one. */
 #include "klog_engine.h"
 
 #include <stdbool.h>
@@ -89,16 +89,69 @@ static void run(const struct test *test)
 	klog_free(&program);
 }
 
+static const struct rules {
+	const char *name, *text;
+	uint32_t fault;
+	size_t column;
+} rules[] = {
+	{"compile", "drop when not (key = \"a\" or value has \"b\")\noutput hash(key) % 4 when u16be(value, 0) > 7\n", KLOG_OK, 0},
+	{"compile_refused", "drop when key = \"a\" and\n", 507, 24},
+};
+
+/* A compile of a test, with the mark as what it tells before, and zeros in the buffer. */
+static uint32_t compile(const struct rules *test, uint8_t *buffer, size_t room, size_t *written, klog_spot *spot)
+{
+	*written = mark;
+	*spot = (klog_spot){mark, mark, mark};
+	memset(buffer, 0, room);
+	return klog_compile((const uint8_t *)test->text, strlen(test->text), buffer, room, written, spot);
+}
+
+static void run_rules(const struct rules *test)
+{
+	static uint8_t buffer[4096], zeros[4096];
+	size_t written;
+	klog_spot spot;
+	uint32_t fault = compile(test, buffer, sizeof buffer, &written, &spot);
+	if (is_refused()) {
+		if (fault != KLOG_MEMORY)
+			fail("the compile was refused memory and returned", fault);
+		printf("refused klog_compile: KLOG_MEMORY\n");
+		if (written != mark || spot.line != mark || memcmp(buffer, zeros, sizeof buffer))
+			fail("the compile was refused memory and told or wrote something", fault);
+		fault = compile(test, buffer, sizeof buffer, &written, &spot);
+	}
+	if (fault != test->fault || spot.column != (fault ? test->column : mark))
+		fail("the compile returned", fault);
+	if (fault ? written != mark : written % 8 || memcmp(buffer, "KLOG\1\0\0\0\3\0\0\0", 12))
+		fail("the compile wrote", (uint32_t)written);
+}
+
+/* Lists a test, or runs it where it has the name. */
+static bool is_found(const char *word, const char *name)
+{
+	bool is_list = !strcmp(word, "--list");
+	if (is_list)
+		printf("%s: test\n", name);
+	return is_list || !strcmp(word, name);
+}
+
 int main(int argc, char **argv)
 {
-	size_t count = sizeof tests / sizeof tests[0], found = 0;
-	for (size_t k = 0; k < count; k++)
-		if (argc == 2 && !strcmp(argv[1], "--list")) {
-			printf("%s: test\n", tests[k].name);
+	const char *word = argc == 2 ? argv[1] : "";
+	bool is_list = !strcmp(word, "--list");
+	size_t found = 0;
+	for (size_t k = 0; k < sizeof tests / sizeof tests[0]; k++)
+		if (is_found(word, tests[k].name)) {
 			found++;
-		} else if (argc == 2 && !strcmp(argv[1], tests[k].name)) {
-			run(&tests[k]);
+			if (!is_list)
+				run(&tests[k]);
+		}
+	for (size_t k = 0; k < sizeof rules / sizeof rules[0]; k++)
+		if (is_found(word, rules[k].name)) {
 			found++;
+			if (!is_list)
+				run_rules(&rules[k]);
 		}
 	if (!found)
 		fail("usage: library_memory --list, or the name of a test", (uint32_t)argc);

@@ -1,4 +1,5 @@
-/* Measures the stack that each function of the C library takes: library_stack BATCHES IMAGE .., called by library_stack.py.
+/* Measures the stack that each function of the C library takes: library_stack BATCHES RULES IMAGE .., called by
+ * library_stack.py. RULES are texts of rules, each before a zero byte.
  * Each call runs in a thread whose stack was painted before; what lies between the caller's frame and the deepest byte
  * that lost its paint is what the call took, with the calls of malloc, realloc, memcpy and free below it. */
 #include "klog_engine.h"
@@ -9,12 +10,15 @@
 #include <stdlib.h>
 #include <string.h>
 
-/* What each call may take. Most is what a thread has here. */
-enum { ALLOWED = 20000, MOST = 1 << 20, PAINT = 0x5a, LONGEST = 8 << 20 };
+/* What each call may take, and one that compiles rules, whose conditions are read and compiled level by level. Most is what
+ * a thread has here. */
+enum { ALLOWED = 20000, ALLOWED_COMPILE = 200000, MOST = 1 << 20, PAINT = 0x5a, LONGEST = 8 << 20 };
 
 static uint8_t *stack;
 static uint8_t *batches_at;
 static size_t batches_length;
+static uint8_t *rules_at;
+static size_t rules_length;
 static uint8_t *image;
 static size_t image_length;
 static uint32_t table;
@@ -26,6 +30,18 @@ static uint32_t call_load(void)
 {
 	size_t place;
 	return klog_load(image, image_length, table, &program, &place);
+}
+
+/* Compiles each text of rules. */
+static uint32_t call_compile(void)
+{
+	size_t length, written;
+	klog_spot spot;
+	for (size_t at = 0; at < rules_length; at += length + 1) {
+		length = strlen((const char *)rules_at + at);
+		klog_compile(rules_at + at, length, room, LONGEST, &written, &spot);
+	}
+	return KLOG_OK;
 }
 
 static uint32_t call_fault_text(void)
@@ -126,11 +142,13 @@ static struct row {
 	const char *name;
 	uint32_t (*call)(void);
 	bool needs_program;
+	bool is_once; /* it takes no image */
 	size_t deepest;
 	uint32_t fault;
 	uint8_t *frame;
 } rows[] = {
 	{.name = "klog_load", .call = call_load},
+	{.name = "klog_compile", .call = call_compile, .is_once = true},
 	{.name = "klog_explain", .call = call_explain},
 	{.name = "klog_text", .call = call_text},
 	{.name = "klog_fault_text", .call = call_fault_text},
@@ -195,7 +213,7 @@ static bool measure_all(void)
 	for (table = KLOG_TABLE_ONE; table <= KLOG_TABLE_TWO; table++) {
 		bool has_program = false;
 		for (size_t k = 0; k < ROWS; k++) {
-			if (rows[k].needs_program && !has_program)
+			if ((rows[k].needs_program && !has_program) || (rows[k].is_once && rows[k].deepest))
 				continue;
 			measure(&rows[k]);
 			has_program = k == 0 ? !rows[k].fault : has_program;
@@ -210,26 +228,28 @@ static bool measure_all(void)
 int main(int argc, char **argv)
 {
 	int accepted = 0, is_deep = 0;
-	if (argc < 3) {
-		fprintf(stderr, "usage: library_stack BATCHES IMAGE ..\n");
+	if (argc < 4) {
+		fprintf(stderr, "usage: library_stack BATCHES RULES IMAGE ..\n");
 		return 2;
 	}
 	if (posix_memalign((void **)&stack, 4096, MOST) || !(room = malloc(LONGEST)))
 		fail("memory ran out");
 	memset(key, 'k', sizeof key);
 	batches_at = read_file(argv[1], &batches_length);
-	for (int k = 2; k < argc; k++) {
+	rules_at = read_file(argv[2], &rules_length);
+	for (int k = 3; k < argc; k++) {
 		image = read_file(argv[k], &image_length);
 		accepted += measure_all();
 		free(image);
 	}
 	for (size_t k = 0; k < ROWS; k++) {
 		printf("%6zu %s\n", rows[k].deepest, rows[k].name);
-		is_deep |= rows[k].deepest > ALLOWED;
+		is_deep |= rows[k].deepest > (size_t)(rows[k].call == call_compile ? ALLOWED_COMPILE : ALLOWED);
 	}
-	printf("%d images, %d of them accepted: %s than %d bytes of stack\n", argc - 2, accepted,
-	       is_deep ? "a call took more" : "no call took more", ALLOWED);
+	printf("%d images, %d of them accepted: %s than %d bytes of stack, or %d to compile rules\n", argc - 3, accepted,
+	       is_deep ? "a call took more" : "no call took more", ALLOWED, ALLOWED_COMPILE);
 	free(batches_at);
+	free(rules_at);
 	free(stack);
 	free(room);
 	return is_deep;

@@ -1,10 +1,12 @@
 #!/usr/bin/env python3
-"""Measures the stack that each function of the C library takes (library_stack.c): at most 20,000 bytes, or the status is 1.
+"""Measures the stack that each function of the C library takes (library_stack.c): at most 20,000 bytes, and klog_compile at
+most 200,000, or the status is 1.
 
     tools/dev/library_stack.py FOLDER        FOLDER is what tools/build_library.sh made; CC is the C compiler, cc if not set
 
 The calls get the greatest images of several forms, accepted and refused, random ones, one that rejects 2,000 records
-with a code each, and batches with a record of the greatest headers, of which a program emits sixteen rows.
+with a code each, and batches with a record of the greatest headers, of which a program emits sixteen rows. klog_compile gets
+the deepest conditions, as many rules as a text may have, faulty texts, and rules that are too long for a program.
 """
 import os
 import random
@@ -75,6 +77,18 @@ def batches():
     return spell(small, 1000, -1, 0) + spell(large, 1000, -1, 0)
 
 
+def rules():
+    test = b'header "' + b"h" * 255 + b'" has "' + b"t" * 255 + b'"'
+    yield b"drop when " + b"(" * 32 + b"key is null" + b")" * 32
+    yield b"drop when " + b"not " * 97 + b"key is null"
+    yield b"drop when " + b" and ".join([test] * 33)
+    yield b"drop when " + b" or ".join([b'u64be(value, 1) >= 7'] * 33)
+    yield b"output 4 with value[4..12] = \"" + b"*" * 255 + b'" when ' + test + b"\n" + b"output hash(key) % 64\n" * 1023
+    yield b"output 0\n" * 1025
+    yield b"drop when " + b"(" * 40
+    yield (b"drop when " + test + b"\n") * 1024
+
+
 def write(name, data):
     with open(name, "wb") as file:
         file.write(data)
@@ -90,7 +104,9 @@ def main(folder):
         sources = [f"{TOP}/tools/dev/library_stack.c", f"{folder}/libklog.a"]
         subprocess.run([os.environ.get("CC", "cc"), *words, *sources, "-o", program], check=True)
         names = [write(f"{room}/{number}.bin", image) for number, image in enumerate(images)]
-        return subprocess.run([program, write(f"{room}/batches", batches()), *names], check=False).returncode
+        texts = b"".join(text + b"\0" for text in rules())
+        return subprocess.run([program, write(f"{room}/batches", batches()), write(f"{room}/rules", texts), *names],
+                              check=False).returncode
 
 
 if __name__ == "__main__":
