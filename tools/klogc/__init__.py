@@ -6,7 +6,7 @@ The parts, each with one purpose:
     values      what is known of a number;  terms  sums of unknown numbers;  bounds  of such sums and the record's lengths;
                 state  at one place of the code;  meeting  where two ways meet
     lowering    runs the blocks with what is known, a copy of a loop's blocks for each round, and writes code
-                (writer, numbers, jumps, memory, calls are its layers; code has the instructions that it writes)
+                (writer, numbers, jumps, memory, calls, library are its layers; code has the instructions that it writes)
     registers   gives the variables of that code registers or places on the stack (places, choice, ways are its layers), without what
                 nothing reads (trim)
     layout      makes the image, and leaves out the tests that the verifier knows never to be taken

@@ -13,8 +13,6 @@ from .writer import Given, region_text
 
 LOADS = {1: "value", 2: "key"}
 LOAD_PART, EQUALS = 14, 16
-COPIES = ("memcpy", "memmove", "klog_memcpy", "klog_memmove")
-MOST_ROOM = 512
 
 
 class Bytes(NamedTuple):
@@ -54,36 +52,6 @@ class Calls(Memory):
         self.clobber(s)
         self.set(s, 0, number(0, most))
 
-    # ---- copies by functions of runtime.h
-
-    def is_part_copy(self, s: State, i):
-        """Whether a call copies a part of the record to a variable, which a helper does too."""
-        if self.program.runtime_function(*i[1:]) not in COPIES:
-            return False
-        to, start, count = (self.known(s, r) for r in (1, 2, 3))
-        return to.region == "stack" and start.region in LENGTH and count.region is None and unsigned(count)[1] <= MOST_ROOM
-
-    def part_copy(self, s: State):
-        """Copies a part of the record by a helper. The result is the variable's address."""
-        to, start, count = (self.operand(s, ("reg", r)) for r in (1, 2, 3))
-        region = start.value.region
-        helper = next(n for n, name in LOADS.items() if name == region)
-        part = Bytes((2, 3), start, count)
-        certain = self.is_certain(s, part)
-        if not certain:
-            self.may_fault(f"a part of the {region} is copied that may end outside: test first that its end is at most {region}_length")
-        given = {1: to, 2: Given(start.value.in_region(None), start.written), 3: count}
-        end = self.empty_room(None, given) if count.value.lo <= 0 else None
-        if unsigned(count.value)[1]:
-            self.write_call(s, helper, given)
-            if not certain:
-                self.emit(Test("ne", 64, self.name(0), 0, OUTSIDE, False))
-        if end:
-            self.emit(Goto(end))
-            self.start(end)
-        self.clobber(s)
-        self.define(s, 0, to.value, to.written)
-
     def empty_room(self, helper, given):
         """Nothing is copied to room of no bytes: the call is left out then, and goes on at the label that is given back."""
         n, length = given[3]
@@ -116,13 +84,13 @@ class Calls(Memory):
         self.emit(Call(EQUALS, (part, place, address, count), self.name(0)))
         self.emit(Alu("xor", 64, self.name(0), self.name(0), 1))
 
-    def write_call(self, s: State, helper, given):
+    def write_call(self, s: State, helper, given, copies=None):
+        """Writes a call, with what it is given, and where bytes that it reads were copied to, if they were."""
         numbers, pairs, rooms, _ = HELPERS[helper]
-        named = [Bytes(pair, given[pair[0]], given[pair[1]]) for pair in pairs]
-        copies = {}
+        named, copies = [Bytes(pair, given[pair[0]], given[pair[1]]) for pair in pairs], copies or {}
         for part in named:
             if self.must_be_copied(s, part):
-                copies[part.registers] = self.copied(s, part, len(copies))
+                copies[part.registers] = self.copied(s, part, len(copies), "compared" if helper == EQUALS else "emitted")
         arguments = []
         for r in numbers:
             arguments.append(self.argument(r))
@@ -149,17 +117,17 @@ class Calls(Memory):
         lo, hi = span(v, 0, unsigned(n)[1])
         return not (lo >= 0 and hi <= s.least[v.region])
 
-    def copied(self, s: State, part: Bytes, made):
-        """Copies a part of the record to the stack, from where it is emitted."""
+    def copied(self, s: State, part: Bytes, made, done_with):
+        """Copies a part of the record to the stack, from where it is emitted or compared."""
         v, n = part.address.value, part.length.value
-        if self.learned.rooms < made + 1:
-            self.learned.rooms = made + 1
-            self.again = True
+        self.need_rooms(made + 1)
         certain = self.is_certain(s, part)
         if not certain:
-            self.may_fault(f"a part of the {v.region} is emitted that may end outside: test first that its end is at most {v.region}_length")
+            self.may_end_outside(v.region, done_with)
         if self.room_size < 8:
             self.fail("a part of the record is emitted for which the stack has no room: give the function fewer or smaller variables")
+        if unsigned(n)[1] > self.room_size:
+            self.may_reject(ROOM)
         to = self.room_at + made * self.room_size
         done = self.label() if n.lo <= 0 else None
         if done:
@@ -169,6 +137,14 @@ class Calls(Memory):
             self.emit(Goto(done))
             self.start(done)
         return Copied(to, min(self.room_size, unsigned(n)[1]))
+
+    def need_rooms(self, count):
+        if self.learned.rooms < count:
+            self.learned.rooms = count
+            self.again = True
+
+    def may_end_outside(self, region, done_with):
+        self.may_fault(f"a part of the {region} is {done_with} that may end outside: test first that its end is at most {region}_length")
 
     @staticmethod
     def is_certain(s: State, part: Bytes):

@@ -1,7 +1,9 @@
 """Compiles a transform in C to an object, by the clang that is here.
 
 BPF lacks signed division, and copies whose length is no constant: in the text of LLVM that clang writes they become calls, of
-what the lowering writes as the machine's own instructions, and of functions of runtime.h."""
+what the lowering writes as the machine's own instructions, and of functions of runtime.h. So do copies from bytes that need not begin
+at a whole word, and comparisons of bytes, of which the compiler would make one instruction for each byte. klog's machine loads words
+from any place, which is said in the text too."""
 import functools
 import os
 import re
@@ -51,6 +53,12 @@ def found_clang():
 
 DIVISION = re.compile(r"^  (\S+) = (sdiv|srem)(?: exact)? (i\d+) (\S+), ([^,\s]+)(.*)$", re.M)
 COPYING = re.compile(r"(?:(?:tail|musttail|notail) )?call void @llvm\.(memcpy|memmove|memset)\.[\w.]+\(")
+COMPARING = re.compile(r"^  (%[\w.]+) = (?:(?:tail|musttail|notail) )?call i32 @(?:memcmp|bcmp)\(", re.M)
+OWN_COMPARING = re.compile(r"^define weak .*@memcmp\(", re.M)
+DEBUG = re.compile(r"^ +(?:(?:tail )?call void @llvm\.dbg\.|#dbg_).*\n", re.M)
+ACCESS = re.compile(r"^(  (?:%[\w.]+ = load|store) (?:volatile )?i(16|32|64)\b.*, align )(\d+)", re.M)
+MOST_COPIED = 512
+WORD = 8
 
 
 class Text:
@@ -62,6 +70,9 @@ class Text:
     def changed(self):
         """The changed text, or None if nothing is to be changed."""
         text = self._copies(DIVISION.sub(self._division, self.text))
+        if OWN_COMPARING.search(text):
+            text = self._comparisons(text)
+        text = ACCESS.sub(self._access, text)
         return text + "\n" + "\n".join(sorted(self.declared)) + "\n" if self.count else None
 
     def _division(self, found):
@@ -82,7 +93,7 @@ class Text:
         parts, at = [], 0
         for found in COPYING.finditer(text):
             arguments, end = arguments_from(text, found.end())
-            if len(arguments) == 4 and arguments[2].startswith("i64 %"):
+            if len(arguments) == 4 and (arguments[2].startswith("i64 %") or found[1] == "memcpy" and is_byte_copy(arguments)):
                 self.count += 1
                 parts += [text[at:found.start()], self._copy(found[1], arguments)]
                 at = end
@@ -93,6 +104,48 @@ class Text:
         to, second, count = (operand_of(a) for a in arguments[:3])
         kind = "i8" if name == "memset" else pointer
         return f"%klog{self.count} = call {pointer} @klog_{name}({pointer} {to}, {kind} {second}, i64 {count})"
+
+    def _access(self, found):
+        """A load or a store of a word, which may be at any place."""
+        size = int(found[2]) // 8
+        if int(found[3]) >= size:
+            return found[0]
+        self.count += 1
+        return f"{found[1]}{size}"
+
+    def _comparisons(self, text):
+        """Comparisons of bytes by functions of runtime.h: by one that says only whether they differ, where no more is asked."""
+        parts, at = [], 0
+        while found := COMPARING.search(text, at):
+            arguments, end = arguments_from(text, found.end())
+            self.count += 1
+            parts.append(text[at:found.start()])
+            at = text.index("\n", end) + 1
+            function_end = text.index("\n}", end)
+            changed = self._difference(found[1], arguments, text[end:at], text[at:function_end])
+            if changed is None:
+                parts.append(f"  {found[1]} = call i32 @klog_memcmp({', '.join(arguments)}){text[end:at]}")
+            else:
+                parts.append(changed[0])
+                text, at = text[:at] + changed[1] + text[function_end:], at
+        return "".join([*parts, text[at:]])
+
+    def _difference(self, result, arguments, rest, following):
+        """The call by which two pieces are tested to be the same, and the text after it; None where the order of them is asked."""
+        name = re.escape(result) + r"(?![\w.])"
+        tested = re.compile(r"icmp (eq|ne) i32 " + name + ", 0(?!\\d)")
+        if re.search(name, DEBUG.sub("", tested.sub("", following))):
+            return None
+        own = f"%klog{self.count}"
+        call = f"  {own} = call i64 @klog_bcmp({', '.join(arguments)}){rest}  {result} = trunc i64 {own} to i32\n"
+        return call, tested.sub(rf"icmp \1 i64 {own}, 0", following)
+
+
+def is_byte_copy(arguments):
+    """Whether a copy of a known length is from bytes that need not begin at a whole word."""
+    found = re.search(r"\balign (\d+)", arguments[1])
+    length = arguments[2].removeprefix("i64 ")
+    return length.isdigit() and 0 < int(length) <= MOST_COPIED and (not found or int(found[1]) < WORD)
 
 
 def arguments_from(text, at):
@@ -147,10 +200,10 @@ class Compiler:
             raise Refused(f"{self.name}: {fault.strerror}") from None
 
     def text_of(self, source, target):
-        """Writes LLVM's text of a source. One that has a memcmp of its own, or the like, does without that of runtime.h."""
-        includes = [f"-I{os.path.dirname(os.path.abspath(source))}", *(f"-I{folder}" for folder in INCLUDES)]
-        for runtime in (["-include", os.path.join(HERE, RUNTIME)], []):
-            done = self.run(*includes, *runtime, "-S", "-emit-llvm", source, "-o", target)
+        """Writes LLVM's text of a source. One that has a memcmp of its own, or the like, does without those of runtime.h."""
+        includes = [f"-I{os.path.dirname(os.path.abspath(source))}", *(f"-I{folder}" for folder in INCLUDES), "-include", os.path.join(HERE, RUNTIME)]
+        for own in ([], ["-DKLOG_OWN_FUNCTIONS"]):
+            done = self.run(*includes, *own, "-S", "-emit-llvm", source, "-o", target)
             if done.returncode == 0:
                 break
             if "same mangled name" not in done.stderr:

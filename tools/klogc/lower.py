@@ -56,22 +56,24 @@ def lowered(program, rounds, strict, slots, fine) -> Lowered:
     """Lowers a program, perhaps with the ways apart on which a variable is another text, or -1.
 
     Of a loop in a loop the copies are many, and few where both are one; but then less is known of where each of them is. So both
-    forms are tried, with few slots first."""
+    forms are tried, with few slots first; with many only where the first form was not refused."""
     learned = {False: Learned(), True: Learned()} if program.order().places != program.order(True).places else {False: Learned()}
-    refusals, stopped = [], {}
+    refused, stopped = None, {}
     for most in sorted({min(FEW_SLOTS, slots), slots}):
         for flat in sorted(learned):
             try:
                 lowering, image = tried(program, Settings({}, most, strict, flat, fine), learned[flat], stopped.get(flat))
             except Refused as refusal:
-                refusals.append(refusal)
+                if most > FEW_SLOTS and not flat:
+                    raise
+                refused = refused or (None if flat else refusal)
                 del learned[flat]
                 continue
             if image:
                 return report(lowering, image)
             stopped[flat] = lowering
-    if False not in learned:
-        raise refusals[0]
+        if refused:
+            raise refused
     return limited(program, rounds, stopped[False])
 
 
@@ -103,15 +105,18 @@ def tried(program, settings, learned, stopped=None):
 
 def attempt(program, settings, learned, stopped=None):
     """One run of the lowering, begun again with what it learned of the stack; no blocks where they are too many. The first goes on
-    with a run that was stopped because it had too many, if there is one."""
+    with a run that was stopped because it had too many, if there is one that knew all of the stack."""
     for _ in range(MOST_RUNS):
-        lowering, blocks = stopped or Lowering(program, settings, learned), None
+        lowering, blocks = stopped if stopped and not stopped.again else Lowering(program, settings, learned), None
         stopped = None
         try:
             blocks = lowering.run(settings)
-        except (Refused, TooLong) as end:
-            if isinstance(end, Refused) and not lowering.again:
+        except Refused:
+            if not lowering.again:
                 raise
+        except TooLong:
+            if settings.slots <= FEW_SLOTS:
+                return lowering, None
         if not lowering.again:
             return lowering, blocks
     raise Refused("the function uses the stack in too many ways", program.line(program.entry))
@@ -137,7 +142,8 @@ def finished(lowering, blocks):
     items = allocator.run()
     if allocator.most > learned.spills:
         learned.spills = allocator.most
-        return None
+        if learned.rooms:
+            return None
     if lowering.spill_at + 8 * allocator.most > STACK:
         raise Refused(f"the functions' variables, and what has no register, take more than the stack's {STACK} bytes", program.line(program.entry))
     data = constant_bytes(lowering)

@@ -3,8 +3,8 @@ which its variables are addresses, with what is known there, and writes the code
 import collections
 import heapq
 
-from .calls import Calls
 from .code import ENTRY, LOOP, Entry, Goto, Move, register
+from .library import Library
 from .program import Block, Place
 from .state import State
 from .terms import LENGTH_TERMS
@@ -38,7 +38,7 @@ def fine_kind(v):
     return kind(v)
 
 
-class Lowering(Calls):
+class Lowering(Library):
     def __init__(self, program, settings, learned):
         super().__init__(program, settings, learned)
         self.places, self.heads, self.turns = program.order(settings.flat)
@@ -134,8 +134,7 @@ class Lowering(Calls):
         try:
             for self.here, i in self.steps_of(block):
                 self.instruction(s, i, block)
-            if i[0] == "local" and self.is_part_copy(s, i):
-                self.part_copy(s)
+            if i[0] == "local" and self.library_call(s, i):
                 self.emit(Goto(self.edge(self.here._replace(slot=self.here.slot + 1), s)))
             elif i[0] not in ("jump", "exit"):
                 self.emit(Goto(self.edge(block.next[0], s)))

@@ -244,8 +244,6 @@ class Memory(Jumps):
         else:
             self.emit(Move(place, given.written, 64))
         self.emit(Move(length, count.written, 64))
-        if unsigned(count.value)[1] > self.room_size:
-            self.may_reject(ROOM)
         if not count.value.is_const():
             self.emit(Bound(length, 1, self.room_size, ROOM))
         self.emit(PointAt(room, FRAME, to - STACK))

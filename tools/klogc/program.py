@@ -12,7 +12,8 @@ from .loops import ordered
 # What runtime.h and the compiler's part put in place of what BPF lacks.
 INTRINSICS = {f"__klog_{name}{width}": (name, width) for name in ("sdiv", "smod") for width in (32, 64)}
 RUNTIME = "runtime.h"
-RUNTIME_NAMES = {"memcmp", "bcmp", "memcpy", "memmove", "memset", "memchr", "strlen", "strcmp", "strncmp", "klog_memcpy", "klog_memmove", "klog_memset"}
+RUNTIME_NAMES = {"memcmp", "bcmp", "memcpy", "memmove", "memset", "memchr", "strlen", "strcmp", "strncmp", "klog_memcpy", "klog_memmove", "klog_memset", "klog_memcmp", "klog_bcmp"}
+RUNTIME_SECTION = "klog_runtime"
 STACK = 512
 MOST_CALLS = 8
 NEAR = 32
@@ -189,9 +190,8 @@ class Program:
 
     def runtime_function(self, section, slot):
         """The name of the function of runtime.h that begins at a slot, or None."""
-        symbol, lines = self.functions.get((section, slot)), self.lines.get(section)
-        line = lines.at(8 * slot) if symbol and lines else None
-        return symbol.name if line and line.file == RUNTIME else None
+        symbol = self.functions.get((section, slot))
+        return symbol.name if symbol and self.obj.section(section).name == RUNTIME_SECTION else None
 
     def line(self, place):
         """The C line of a place: of what runtime.h has, that of the call, and of what has none, the last one before it."""

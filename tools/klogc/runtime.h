@@ -1,8 +1,12 @@
-/* Functions of C that a compiler calls where it does not inline them: klogc copies them to each call. It includes this file before
- * the source. */
+/* Functions of C that a compiler calls where it does not inline them: klogc copies them to each call, or writes what does the same.
+ * It includes this file before the source. They are in a section of their own, by which klogc knows them. */
+#define KLOG_SECTION section("klog_runtime")
 #define KLOG_OWN(result, name, ...) \
 	result klog_own_##name(__VA_ARGS__) __asm__(#name); \
-	__attribute__((noinline, weak, no_builtin)) result klog_own_##name(__VA_ARGS__)
+	__attribute__((noinline, weak, no_builtin, KLOG_SECTION)) result klog_own_##name(__VA_ARGS__)
+
+/* A source may have these itself. */
+#ifndef KLOG_OWN_FUNCTIONS
 
 KLOG_OWN(int, memcmp, const void *a, const void *b, unsigned long n)
 {
@@ -83,15 +87,19 @@ KLOG_OWN(int, strcmp, const char *a, const char *b)
 	}
 }
 
-/* What a compiler makes of memcpy and the like where the length is no constant (compiler.py). */
-__attribute__((noinline, used, no_builtin)) static void *klog_memcpy(void *to, const void *from, unsigned long n)
+#endif
+
+/* What compiler.py puts in place of memcpy, memcmp and the like. */
+#define KLOG_PUT __attribute__((noinline, used, no_builtin, KLOG_SECTION)) static
+
+KLOG_PUT void *klog_memcpy(void *to, const void *from, unsigned long n)
 {
 	for (unsigned long i = 0; i < n; i++)
 		((unsigned char *)to)[i] = ((const unsigned char *)from)[i];
 	return to;
 }
 
-__attribute__((noinline, used, no_builtin)) static void *klog_memmove(void *to, const void *from, unsigned long n)
+KLOG_PUT void *klog_memmove(void *to, const void *from, unsigned long n)
 {
 	if ((const unsigned char *)to <= (const unsigned char *)from)
 		for (unsigned long i = 0; i < n; i++)
@@ -102,9 +110,27 @@ __attribute__((noinline, used, no_builtin)) static void *klog_memmove(void *to, 
 	return to;
 }
 
-__attribute__((noinline, used, no_builtin)) static void *klog_memset(void *to, unsigned char byte, unsigned long n)
+KLOG_PUT void *klog_memset(void *to, unsigned char byte, unsigned long n)
 {
 	for (unsigned long i = 0; i < n; i++)
 		((unsigned char *)to)[i] = byte;
 	return to;
+}
+
+KLOG_PUT int klog_memcmp(const void *a, const void *b, unsigned long n)
+{
+	for (unsigned long i = 0; i < n; i++)
+		if (((const unsigned char *)a)[i] != ((const unsigned char *)b)[i])
+			return ((const unsigned char *)a)[i] < ((const unsigned char *)b)[i] ? -1 : 1;
+	return 0;
+}
+
+/* Whether bytes differ. All of them are read. */
+KLOG_PUT unsigned long klog_bcmp(const void *a, const void *b, unsigned long n)
+{
+	unsigned long different = 0;
+
+	for (unsigned long i = 0; i < n; i++)
+		different |= ((const unsigned char *)a)[i] ^ ((const unsigned char *)b)[i];
+	return different;
 }

@@ -14,7 +14,7 @@ from typing import Callable, NamedTuple
 if __name__ == "__main__":
     sys.path[0] = os.path.dirname(os.path.dirname(os.path.dirname(os.path.realpath(__file__))))
 
-from klogc import bounds, calls, choice, code, jumps, layout, memory, numbers, places, program, state, values, ways
+from klogc import bounds, calls, choice, code, jumps, layout, library, memory, numbers, places, program, state, values, ways
 from klogc.compiler import Compiler
 from klogc.program import Refused
 from klogc.tests.compare import PROGRAMS_IN_ONE, compared
@@ -65,6 +65,9 @@ FAULTS = [
     Fault("constants are zeros", layout, "filled", lambda old: lambda data: old(dict.fromkeys(data, 0))),
     Fault("functions share their stack", program.Program, "tops", lambda old: lambda self: (dict.fromkeys(old(self)[0], old(self)[1]), old(self)[1])),
     Fault("a part is copied of the key", calls, "LOADS", lambda old: {1: "key", 2: "value"}),
+    Fault("a part is compared of the key", library, "PARTS", lambda old: {"value": 1, "key": 0}),
+    Fault("the last bytes are not compared or copied", library, "words", lambda old: lambda count: old(count & -2 or count)),
+    Fault("of two pieces the first words alone are compared", library.Library, "test_word", lambda old: lambda self, s, end, is_first: old(self, s, end, True) if is_first else None),
     Fault("an order is turned", bounds.Bounds, "least_difference", lambda old: lambda self, v, w, least=None, parts=None: old(self, w, v, None, parts)),
     Fault("a length is odd that is even", bounds.Bounds, "divide_length", lambda old: lambda self, region, c, divisor, remainder: old(self, region, c, divisor, remainder + 1)),
     Fault("a test is left out where it is read", layout, "view", lambda old: lambda data, table: old(data, table)._replace(never=some_test(data))),

@@ -69,6 +69,7 @@ SIZES = ((1, 1), (1, 2), (2, 1), (2, 2), (3, 1), (3, 2), (4, 3), (7, 4))
 SMALL = (0, 1, 2, 3, 4, 5, 6, 7, 9, 12, 15, 40, 99, 200)
 NUMBERS = (0, 1, 2, 3, 5, 7, 8, 15, 16, 31, 48, 57, 64, 97, 122, 127, 128, 255, 256, 1000, 65535, 1 << 31, (1 << 32) - 1, 0x123456789ABC, (1 << 64) - 1)
 VARIABLES = ("a", "b", "c", "d", "e", "f", "x", "y", "s", "h", "t", "z", "row.sum", "row.low", "other.high", "row.sign")
+PIECES = (("a", 1), ("key=value", 9), ("}", 1), ("Hello, World", 12), ("411", 3), (r'\"id\":1,', 7), (r"\b\226", 2), (r"\0\0\0\0", 4), (r"\377\0", 2))
 TYPES = ("u8", "u16", "u32", "int", "short", "long", "signed char", "u64")
 
 
@@ -171,7 +172,7 @@ class Maker:
         makers = [self.assignment, self.assignment, self.element, self.guarded_byte, self.field, self.kept]
         if self.depth <= self.deepest:
             makers += [self.changed_places, self.local, self.tested, self.tested]
-            makers += [self.choice, self.choice, self.counted, self.ended, self.pointed, self.backward, self.switch, self.called, self.copied, self.chosen, self.compared,
+            makers += [self.choice, self.choice, self.counted, self.ended, self.pointed, self.backward, self.switch, self.called, self.copied, self.chosen, self.compared, self.compared_part,
                        self.emitted, self.loaded]
         try:
             return r.choice(makers)()
@@ -290,14 +291,23 @@ class Maker:
         return f"{self.variable()} = {self.name}_own({self.variable()}, {self.variable()});"
 
     def copied(self):
-        match self.r.randrange(4):
+        n = self.index("n")
+        match self.r.randrange(7):
+            case 4:
+                size = self.r.choice((2, 4, 8))
+                return f"{{ u64 {n} = 0; if (value_length >= 12) memcpy(&{n}, value + {self.r.randrange(4)}, {size}); {self.variable()} += {n}; memcpy(buf + {self.r.randrange(20)}, &{n}, {size}); }}"
+            case 5:
+                return f"memcpy({self.r.choice(('w', 'buf'))}, buf + {self.r.choice(('3', '0', f'({self.variable()} & 7)'))}, {self.r.randrange(1, 20)});"
+            case 6:
+                size = self.r.choice((3, 4, 16, 20))
+                return f"{{ u64 {n} = {self.narrow()}; if ({n} <= key_length && key_length - {n} >= {size}) memcpy(buf + {self.r.randrange(12)}, key + {n}, {size}); }}"
             case 0:
                 return f"memset(buf + {self.r.randrange(8)}, {self.variable()}, {self.variable()} & 15);"
             case 1:
                 return f"if (value_length >= 12) memcpy(buf, value + {self.r.randrange(4)}, {self.r.randrange(1, 9)});"
             case 2:
                 return f"memmove(buf + {self.r.randrange(6)}, buf + {self.r.randrange(6)}, {self.variable()} & 7);"
-        return f"{{ u64 {(n := self.index('n'))} = value_length < 20 ? value_length : 20; memcpy(buf, value, {n}); }}"
+        return f"{{ u64 {n} = value_length < 20 ? value_length : 20; memcpy(buf, value, {n}); }}"
 
     def chosen(self):
         p, n = self.index("p"), self.index("n")
@@ -305,13 +315,39 @@ class Maker:
                 f" if ({n} > 2) {self.variable()} += {p}[{self.r.randrange(3)}] + {p}[{n} - 1]; }}")
 
     def compared(self):
-        text = self.r.choice(("a", "key", "xyz", "hear"))
-        match self.r.randrange(3):
+        text, v = self.r.choice(("a", "key", "xyz", "hear")), self.variable()
+        match self.r.randrange(4):
             case 0:
-                return f'if (key_length >= {len(text)} && memcmp(key, "{text}", {len(text)}) {self.r.choice(("== 0", "< 0"))}) {self.variable()}++;'
+                return f'if (key_length >= {len(text)} && memcmp(key, "{text}", {len(text)}) {self.r.choice(("== 0", "< 0"))}) {v}++;'
             case 1:
-                return f"{self.variable()} += memcmp(buf, buf + 8, {self.r.randrange(1, 8)}) > 0;"
-        return f"{self.variable()} += names[{self.variable()} & 3][0] + strlen(names[{self.variable()} & 3]);"
+                return f"{v} += memcmp(buf, buf + 8, {self.r.randrange(1, 8)}) > 0;"
+            case 2:
+                return f"{v} += !memcmp(buf + {self.r.randrange(8)}, w, {self.r.choice((3, 8, 13, 24))}) + 2 * !!memcmp(buf, w, {self.variable()} & 15);"
+        return f"{v} += names[{v} & 3][0] + strlen(names[{v} & 3]);"
+
+    def compared_part(self):
+        """Whether a part of the record is other bytes: at a place that is not known, or of such a length."""
+        r, n, v, region = self.r, self.index("n"), self.variable(), self.r.choice(("value", "key"))
+        text, length = r.choice(PIECES)
+        test = r.choice(("== 0", "!= 0"))
+        match r.randrange(8):
+            case 6 | 7:
+                size, at = r.randrange(1, 20), r.randrange(4)
+                place = r.choice((str(at), f"({self.variable()} & {r.choice((1, 3))})"))
+                return (f"if ({region}_length >= 23) {{ memcpy(buf, {region} + {at}, {size}); buf[{size - 1}] ^= {self.variable()} & 1;"
+                        f" if (memcmp({region} + {place}, buf, {size}) {test}) {v} += 5; }}")
+            case 0:
+                return f"for (u64 {n} = {self.variable()} & 3; {n} + {length} <= {region}_length && {n} < 9; {n}++) {{ if (memcmp({region} + {n}, \"{text}\", {length}) {test}) {v} += {n} + 1; }}"
+            case 1:
+                return f"{{ u64 {n} = {self.narrow()}; if ({n} < {region}_length && {region}_length - {n} >= {length} && memcmp({region} + {n}, \"{text}\", {length}) {test}) {v} += {n}; }}"
+            case 2:
+                size = r.randrange(1, 20)
+                return f"for (u64 {n} = 0; {n} + {size} <= {region}_length && {n} < 5; {n}++) {{ {self.statements(1)} if (!memcmp({region} + {n}, buf + {r.randrange(12)}, {size})) {v} += {n} + 1; }}"
+            case 3:
+                return f"{{ u64 {n} = {self.variable()} & 15; if ({n} <= {region}_length && memcmp({region}{r.choice(('', f' + {region}_length - {n}'))}, buf, {n}) {test}) {v} ^= {n} + 9; }}"
+            case 4:
+                return f"{{ u64 {n} = {self.variable()} & 7; if ({n} <= value_length && value_length - {n} >= key_length && memcmp(key, value + {n}, key_length) {test}) {v} -= 77; }}"
+        return f"{{ u64 {n} = {self.variable()} & 15; {v} += memcmp({region} + {n}, \"{text}\", {length}) {test}; }}"
 
     def emitted(self):
         match self.r.randrange(5):

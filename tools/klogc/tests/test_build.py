@@ -10,7 +10,7 @@ from second_broker import Record as Spelled
 
 from klogc.compiler import Compiler, Text, arguments_from, operand_of
 from klogc.lower import lower
-from klogc.meaning import Record, Run
+from klogc.meaning import Emission, Record, Run
 from klogc.program import Program, Refused
 
 KLOGC = os.path.join(os.path.dirname(os.path.dirname(os.path.abspath(__file__))), "klogc")
@@ -61,6 +61,8 @@ ACCEPTED = [
      "\n\tfor (u64 i = start; i < end; i++)\n\t\tif (value[i] == '/')\n\t\t\treturn i;\n\treturn 99;", [(Record(b"k", b"ab:c/"), 4), (Record(b"k", b":aaaaaaaaaaa/"), 99), (Record(b"k", b"a:"), 1)]),
     ("base58", "\tstatic const char digits[] = \"123456789ABCDEFGHJKLMNPQRSTUVWXYZabcdefghijkmnopqrstuvwxyz\";\n\tif (value_length < 4)\n\t\treturn 1;\n\tu64 all = 0;"
      "\n\tfor (u32 n = *(const u32 *)value; n; n /= 58)\n\t\tall = all * 256 + digits[n % 58];\n\treturn all;", [(Record(b"k", (58 * 57 + 9).to_bytes(4, "little")), 256 * ord("A") + ord("z")), (Record(b"k", bytes(4)), [])]),
+    ("words", '\tu32 n;\n\tu64 copy[2] = {0};\n\tif (value_length < 20)\n\t\treturn 1;\n\tmemcpy(&n, value + 1, 4);\n\tmemcpy((u8 *)copy + 3, value + 2, 13);\n\tif (memcmp(value + 7, "abcdefg", 7) || memcmp(copy, value + 2, 16) > 0)\n\t\treturn 2;\n\treturn __builtin_bswap32(n) + ((u8 *)copy)[15];',
+     [(Record(b"k", b"-\0\0\1\2--abcdefg......"), 258 + ord(".")), (Record(b"k", b"-\0\0\1\2--abcdefG......"), 2), (Record(b"k", b"---abcdefg---------"), 1)]),
     ("no_room", "\tu8 to[4] = {0};\n\treturn 5 + load_value(to, 3, value_length & 0);", [(Record(b"k", b"ab"), 6), (Record(b"k", b"abc"), 5)]),
 ]
 
@@ -107,6 +109,25 @@ class Lowering(unittest.TestCase):
                 for record, wanted in cases:
                     self.assertEqual(Run(program, record, 4).outcome(), wanted)
                     self.assertEqual(second_machine.run(code, Spelled(0, *record[:3]), 4, (0, 0, 0)), wanted)
+
+    def test_few_loads(self):
+        """Bytes at a known place are compared and copied by words, and those at another place by one call of a helper."""
+        data = self.compiled(HEAD + ENTRY % ("known", '\treturn value_length < 13 ? 1 : memcmp(value, "Hello, World!", 13) ? 2 : 3;')
+                             + ENTRY % ("part", '\tu64 at = key_length & 7;\n\treturn value_length < at + 13 ? 1 : memcmp(value + at, "Hello, World!", 13) ? 2 : 3;')
+                             + ENTRY % ("copy", '\tu8 copy[15], other[12];\n\tif (value_length < (key_length & 7) + 18)\n\t\treturn 1;\n\tmemcpy(copy, value + 3, 15);\n\tmemcpy(other, value + (key_length & 7), 12);\n\treturn emit(0, copy, 15, other, 12);'))
+        codes = {name: second_machine.decode(lower(Program(data, name)).data) for name in ("known", "part", "copy")}
+        self.assertEqual([i[1] for i in codes["known"] if i[0] == "load"], [8, 4, 1])
+        self.assertEqual([i[1] for i in codes["part"] if i[0] == "call"], [16])
+        self.assertEqual([i[1] for i in codes["copy"] if i[0] in ("load", "call")], [8, 4, 2, 1, 1, 5])
+
+    def test_own_functions(self):
+        """A source may have a memcmp of its own, which is not taken for that of C's library."""
+        own = ("int memcmp(const void *a, const void *b, unsigned long n)\n{\n\tconst u8 *x = a, *y = b;\n\tfor (unsigned long i = 0; i < n; i++)\n\t\tif (x[i] != y[i])"
+               "\n\t\t\treturn 5;\n\treturn 0;\n}\n")
+        data = self.compiled(HEAD + own + ENTRY % ("it", '\tu8 copy[16];\n\tif (value_length > 16)\n\t\treturn 1;\n\tmemcpy(copy, value, value_length);\n\tif (value_length < 3 || memcmp(copy, "abc", 3) == 5)\n\t\treturn 2;\n\treturn emit_value(0, copy, value_length);'))
+        program = Program(data, "it")
+        self.assertEqual([Run(program, Record(b"k", value), 4).outcome() for value in (b"abd", b"abcd")], [2, [Emission(0, b"k", b"abcd")]])
+        self.assertEqual(lower(program).codes, {})
 
     def test_codes(self):
         data = self.compiled(HEAD + ENTRY % ("it", "\treturn value[2]; /* line 5 */") + ENTRY % ("endless", "\tu64 n = value_length, steps = 1;\n\tfor (; n != 1; steps++)\n\t\tn = n & 1 ? 3 * n + 1 : n / 2;\n\treturn steps;"))
@@ -157,13 +178,13 @@ class Words(unittest.TestCase):
         text = ("  %q = sdiv exact i32 %a, 4, !dbg !7\n  %r = srem i16 %a, %b\n"
                 "  call void @llvm.memcpy.p0.p0.i64(ptr nonnull align 1 %to, ptr align 1 getelementptr inbounds ([5 x i8], ptr @t, i64 0, i64 1), i64 %n, i1 false), !dbg !8\n"
                 "  tail call void @llvm.memset.p0i8.i64(i8* noundef nonnull align 8 dereferenceable(16) %to, i8 %b, i64 %n, i1 false)\n"
-                "  call void @llvm.memcpy.p0i8.p0i8.i64(i8* %a, i8* %b, i64 8, i1 false)\n")
+                "  call void @llvm.memcpy.p0i8.p0i8.i64(i8* %a, i8* align 8 %b, i64 8, i1 false)\n")
         changed = Text(text).changed()
         self.assertIn("  %q = call i32 @__klog_sdiv32(i32 %a, i32 4), !dbg !7\n", changed)
         self.assertIn("  %r = trunc i32 %klog2c to i16\n", changed)
         self.assertIn("= call ptr @klog_memcpy(ptr %to, ptr getelementptr inbounds ([5 x i8], ptr @t, i64 0, i64 1), i64 %n), !dbg !8\n", changed)
         self.assertIn("= call i8* @klog_memset(i8* %to, i8 %b, i64 %n)\n", changed)
-        self.assertIn("  call void @llvm.memcpy.p0i8.p0i8.i64(i8* %a, i8* %b, i64 8, i1 false)\n", changed)
+        self.assertIn("  call void @llvm.memcpy.p0i8.p0i8.i64(i8* %a, i8* align 8 %b, i64 8, i1 false)\n", changed)
         self.assertIsNone(Text("  %q = udiv i32 %a, 4\n").changed())
         self.assertEqual(arguments_from("(a, f(b, c)) rest", 1), (["a", "f(b, c)"], 12))
         self.assertEqual(operand_of("i8* noundef align 1 %x"), "%x")

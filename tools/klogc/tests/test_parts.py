@@ -40,6 +40,13 @@ CASES = [
     ("added_text", '\tu64 first = emit_null(0), code = add_header(key, key_length, "", 0);\n\treturn first * 10 + (code ? code : emit_null(1));',
      [(Record("ä".encode(), None), [Emission(0, "ä".encode(), None), Emission(1, "ä".encode(), None, (("ä".encode(), b""),))]), (Record(b"\xff", b""), 2), (Record(b"a" * 256, b""), 2),
       (Record(b"a" * 255, b"", ((b"h", b""),)), [Emission(0, b"a" * 255, None), Emission(1, b"a" * 255, None, ((b"a" * 255, b""),))])]),
+    ("compared", '\tif (value_length < 1)\n\t\treturn 9;\n\tu64 at = value[0] & 15;\n\tif (at + 13 > value_length)\n\t\treturn 8;\n\treturn memcmp(value + at, "Hello, World!", 13) ? 1 : 2;',
+     [(Record(b"", b"\x02.Hello, World!"), 2), (Record(b"", b"\x02.Hello, World?"), 1), (Record(b"", b"\x02.Hello, World"), 8), (Record(b"", b"\x12xHello, World!"), 2), (LONG, 1)]),
+    ("compared_stack", "\tu8 room[24];\n\tu64 n = key_length;\n\tif (value_length < 40 || n > 24)\n\t\treturn 9;\n\tload_key(room, 0, n);\n\tif (n == 0 || room[0] > 16)\n\t\tn = 0;\n\treturn 1 + !memcmp(value + (n & 15), room, n);",
+     [(Record(b"", bytes(40)), 2), (Record(b"\x03bc", b"...\x03bcd" + bytes(33)), 2), (Record(b"\x03bc", b"...\x03bd" + bytes(34)), 1), (Record(b"\x11", bytes(40)), 2)]),
+    ("compared_parts", "\tu64 at = nulls & KEY_IS_NULL ? 3 : key_length & 1;\n\tif (value_length < at + key_length)\n\t\treturn 9;\n\treturn 1 + (memcmp(value + at, key, key_length) != 0);",
+     [(Record(b"abc", b".abc"), 1), (Record(b"abc", b".abd"), 2), (Record(b"ab", b"abc"), 1), (Record(None, b"abc"), 1), (Record(None, b"ab"), 9), (Record(b"-" * 3000, b"-" * 3001), 1),
+      (Record(b"-" * 3000, b"-" * 2999 + b"x"), 2)]),
     ("texts", '\treturn starts_with(VALUE, "a,") * 4 + contains(VALUE, "yz") * 2 + contains(KEY, "z") + 1;', [(WITH, 7), (LONG, 1)]),
 ]
 
