@@ -1,11 +1,12 @@
 """What is known of numbers by what they are sums of: bounds of the record's lengths, of sums, and of how far sums are from a length."""
-from typing import NamedTuple
+from typing import Callable, NamedTuple
 
 from .code import Variable
 from .terms import LENGTH_TERMS, MOST_TERMS, has_length, plus, region_of, sum_in, turned
-from .values import LIMIT, Value, added, const, made, number, small, summed, window
+from .values import LIMIT, M64, Value, added, const, made, number, small, summed, window
 
 FAR, HALF = 1 << 62, 1 << 63
+NEGATED_LENGTHS = {turned(terms): region for region, terms in LENGTH_TERMS.items()}
 
 
 class Held(NamedTuple):
@@ -23,9 +24,12 @@ class Bounds:
     most: dict[str, int]
     facts: dict[tuple, int]
     floors: dict[tuple, int]
-    scales: dict[tuple, tuple[str, int]]
+    products: dict[tuple, tuple[Value, int]]
+    scales: dict[tuple, tuple[str, int, int]]
     remainders: dict[tuple, tuple[str, int, int]]
+    masks: dict[tuple, tuple[Value, str, int]]
     grid: dict[str, tuple[int, int]]
+    note: Callable
 
     def keep_fact(self, terms, region, slacks, c):
         """What may be added on both ways to terms and a constant, which are not negative then, is a fact of the terms."""
@@ -91,6 +95,9 @@ class Bounds:
             return
         k += small(v.c) - small(w.c) + less
         self.facts[left, region] = max(k, self.facts.get((left, region), k))
+        if left in self.products:
+            of, factor = self.products[left]
+            self.note("scales", of.terms, (region, factor, k + factor * small(of.c)))
         if left == v.terms:
             self.floors[left] = max(v.lo - small(v.c), self.floors.get(left, -FAR))
             self._raise_least(v, v.lo)
@@ -117,8 +124,8 @@ class Bounds:
                 if fact is not None:
                     self.least[region] = max(self.least[region], lo - small(v.c) + fact)
             if v.terms in self.scales:
-                region, factor = self.scales[v.terms]
-                self.least[region] = max(self.least[region], (lo - small(v.c)) * factor)
+                region, factor, more = self.scales[v.terms]
+                self.least[region] = max(self.least[region], (lo - small(v.c)) * factor + more)
 
     def gap(self, v, w):
         """The most that is known to be possible to add to v so that it is still at most w, a length but for a constant; or None."""
@@ -190,8 +197,12 @@ class Bounds:
         region = v.length_region()
         if region is not None:
             return self._narrow_length(region, small(v.c), lo, hi)
+        if v.terms in NEGATED_LENGTHS and not self._narrow_length(NEGATED_LENGTHS[v.terms], -small(v.c), -hi, -lo):
+            return False
         if lo == hi and v.c == 0 and v.terms in self.remainders:
             self.divide_length(*self.remainders[v.terms], lo)
+        if v.terms in self.masks and v.c == 0 <= lo and not self._narrow_masked(v, lo, hi):
+            return False
         self._raise_least(v, lo)
         self._narrow_difference(v, lo, hi)
         self._narrow_rest(v, lo)
@@ -202,6 +213,13 @@ class Bounds:
             if x is not None and x.terms == v.terms:
                 self.memory[at] = Held(size, narrowed(x, v, lo, hi))
         return self._settle_lengths()
+
+    def _narrow_masked(self, v, lo, hi):
+        """What it says of a number that its `and` or its `or` with a mask is from lo to hi."""
+        of, name, mask = self.masks[v.terms]
+        if name == "and":
+            return self.narrow(of, lo, lo | M64 & ~mask if lo == hi else M64)
+        return self.narrow(of, lo & ~mask if lo == hi else 0, hi)
 
     def divide_length(self, region, c, divisor, remainder):
         """A length and a constant have a remainder by a divisor."""
@@ -238,6 +256,8 @@ class Bounds:
             low, high = min(low for low, _ in ends), max(high for _, high in ends)
             self.facts[other, region] = max(low, self.facts.get((other, region), low))
             self.floors[other] = max(known[0], self.floors.get(other, known[0]))
+            apart = v.terms if sign > 0 else turned(v.terms)
+            self.floors[apart] = max(low, self.floors.get(apart, low))
             self.least[region], self.most[region] = max(self.least[region], low + known[0]), min(self.most[region], high + known[1])
 
     def _narrow_rest(self, v, lo):

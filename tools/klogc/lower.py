@@ -56,8 +56,10 @@ def lowered(program, rounds, strict, slots, fine) -> Lowered:
     """Lowers a program, perhaps with the ways apart on which a variable is another text, or -1.
 
     Of a loop in a loop the copies are many, and few where both are one; but then less is known of where each of them is. So both
-    forms are tried, with few slots first; with many only where the first form was not refused."""
-    learned = {False: Learned(), True: Learned()} if program.order().places != program.order(True).places else {False: Learned()}
+    forms are tried, with few slots first. Where the first is refused the second gets few slots alone, and no ways apart."""
+    learned = {False: Learned()}
+    if not fine and program.order().places != program.order(True).places:
+        learned[True] = Learned()
     refused, stopped = None, {}
     for most in sorted({min(FEW_SLOTS, slots), slots}):
         for flat in sorted(learned):

@@ -21,7 +21,8 @@ class Meeting:
         one, other, both = self.one, self.other, self.both
         both.facts, both.floors = least_of(one.facts, other.facts), least_of(one.floors, other.floors)
         both.shifts, both.quotients, both.multiples = same(one.shifts, other.shifts), same(one.quotients, other.quotients), same(one.multiples, other.multiples)
-        both.complements, both.scales, both.remainders = same(one.complements, other.complements), same(one.scales, other.scales), same(one.remainders, other.remainders)
+        both.complements, both.products = same(one.complements, other.complements), same(one.products, other.products)
+        both.scales, both.remainders, both.masks = same(one.scales, other.scales), same(one.remainders, other.remainders), same(one.masks, other.masks)
         new = self._variables()
         if new:
             self._parts(new)

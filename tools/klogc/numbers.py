@@ -3,7 +3,7 @@ from .code import LENGTH, OUTSIDE, Alu, Change, Move, Test
 from .program import INTRINSICS
 from .state import State
 from .terms import region_of
-from .values import M32, M64, MIXED, added, changed, const, low32, number, quotient32, result, signed, small, unsigned
+from .values import LIMIT, M32, M64, MIXED, added, changed, const, low32, number, quotient32, result, signed, small, unsigned
 from .writer import Given, Writer
 
 MANY_TERMS = 4
@@ -153,12 +153,14 @@ def related(s: State, name, width, operands, known):
         divisor = w if name == "div" else power(w, width)
         s.note("quotients", known.terms, (v, divisor))
         if divisor.is_const() and v.length_region() and v.c == 0:
-            s.note("scales", known.terms, (v.length_region(), divisor.lo))
+            s.note("scales", known.terms, (v.length_region(), divisor.lo, 0))
     elif name == "mul":
         multiplied(s, (v, w), known, width)
         multiplied(s, (w, v), known, width)
+        note_product(s, *((w, v) if v.is_const() else (v, w)), known)
     elif name == "lsh" and w.is_const():
         multiplied(s, (v, power(w, width)), known, width)
+        note_product(s, v, power(w, width), known)
     elif name == "sub":
         known = remainder(s, v, s.multiples.get(w.terms) if w.c == 0 else None, known)
         known = s.difference(known, v, w) if width == 64 else known
@@ -168,6 +170,8 @@ def related(s: State, name, width, operands, known):
             known = s.difference(known, n, added(const(0), less, -1)) if width == 64 and signed(less)[1] < 0 else known
     elif name == "mod" and w.lo > 0:
         s.learn(known, w, True)
+    if name in ("and", "or") and w.is_const() and v.length_region() and known.c == 0 and known.terms not in (None, v.terms):
+        s.note("masks", known.terms, (v, name, w.lo))
     divisor = w.lo + (name == "and") if w.is_const() and name in ("and", "mod") else 0
     if v.length_region() and v.lo >= 0 and known.terms is not None and known.c == 0 and divisor and (name == "mod" or divisor & w.lo == 0):
         s.note("remainders", known.terms, (v.length_region(), small(v.c), divisor))
@@ -189,6 +193,12 @@ def multiplied(s: State, factors, known, width):
         s.note("multiples", known.terms, (of, by))
     elif by.is_const() and factor.is_const() and factor.lo == -by.lo % (1 << width):
         s.note("complements", (known.terms, width), (of, by))
+
+
+def note_product(s: State, v, factor, known):
+    """A multiple of a number that is not negative, with no loss."""
+    if known.c == 0 and factor.is_const() and v.lo >= 0 and v.hi * factor.lo <= LIMIT["value"] and -LIMIT["value"] <= small(v.c) <= LIMIT["value"]:
+        s.note("products", known.terms, (v, factor.lo))
 
 
 def remainder(s: State, v, multiple, known):

@@ -7,7 +7,7 @@ from .values import LIMIT, M64, MIXED, Value, number
 
 LENGTHS = frozenset(term for terms in LENGTH_TERMS.values() for term, _ in terms)
 # What is known of how numbers came about: of these nothing is forgotten while they are few.
-ORIGINS = ("shifts", "quotients", "multiples", "complements", "scales", "remainders")
+ORIGINS = ("shifts", "quotients", "multiples", "complements", "products", "scales", "remainders", "masks")
 FEW_ORIGINS = 16
 
 
@@ -18,9 +18,10 @@ class State(Bounds):
     `facts` say of terms and a region what may be added to the terms so that the sum is still at most the region's length, and
     `floors` of such terms what they are at least, as a whole number, not modulo 2^64. `shifts` say of terms which number it was
     that was shifted to the left, and by how much; `quotients` of which numbers they are the quotient, `multiples` that they are such
-    a quotient times the divisor again, `complements` of terms and a width that they are what this lacks to 2^width, and `scales` with
-    which factor they are at most a region's length. `remainders` say of which length, with a constant added, they are the remainder by
-    what; `grid` by what a length has which remainder. States share these last seven: who changes one puts another in its place."""
+    a quotient times the divisor again, `complements` of terms and a width that they are what this lacks to 2^width, `products` of which
+    number they are which multiple, and `scales` with which factor and what added they are at most a region's length. `remainders` say
+    of which length, with a constant added, they are the remainder by what, and `masks` of which they are the `and` or the `or` with
+    what; `grid` by what a length has which remainder. States share these last nine: who changes one puts another in its place."""
     __slots__ = ("variables", "memory", "words", "least", "most", "sure", "facts", "floors", "grid", *ORIGINS)
 
     def __init__(self):
@@ -36,8 +37,10 @@ class State(Bounds):
         self.quotients: dict[tuple, tuple[Value, Value]] = {}
         self.multiples: dict[tuple, tuple[Value, Value]] = {}
         self.complements: dict[tuple, tuple[Value, Value]] = {}
-        self.scales: dict[tuple, tuple[str, int]] = {}
+        self.products: dict[tuple, tuple[Value, int]] = {}
+        self.scales: dict[tuple, tuple[str, int, int]] = {}
         self.remainders: dict[tuple, tuple[str, int, int]] = {}
+        self.masks: dict[tuple, tuple[Value, str, int]] = {}
 
     def copy(self):
         s = State.__new__(State)
@@ -45,7 +48,7 @@ class State(Bounds):
         s.least, s.most, s.sure = self.least.copy(), self.most.copy(), self.sure.copy()
         s.facts, s.floors, s.grid = self.facts.copy(), self.floors.copy(), self.grid
         s.shifts, s.quotients, s.multiples = self.shifts, self.quotients, self.multiples
-        s.complements, s.scales, s.remainders = self.complements, self.scales, self.remainders
+        s.complements, s.products, s.scales, s.remainders, s.masks = self.complements, self.products, self.scales, self.remainders, self.masks
         return s
 
     def join(self, other):
@@ -71,7 +74,8 @@ class State(Bounds):
         # Most are of one number, which is looked for here at once.
         self.facts = {key: k for key, k in self.facts.items() if key[0][0][0] in used and (len(key[0]) == 1 or are_used(key[0], used))}
         self.floors = {terms: k for terms, k in self.floors.items() if terms[0][0] in used and (len(terms) == 1 or are_used(terms, used))}
-        if len(self.shifts) + len(self.quotients) + len(self.multiples) + len(self.complements) + len(self.scales) + len(self.remainders) > FEW_ORIGINS:
+        made = len(self.shifts) + len(self.quotients) + len(self.multiples) + len(self.complements) + len(self.products)
+        if made + len(self.scales) + len(self.remainders) + len(self.masks) > FEW_ORIGINS:
             self._keep_origins(used)
 
     def _keep_origins(self, used):

@@ -207,7 +207,8 @@ def result(name, bits, a, b):
         return const(computed(bits, name, a.lo, b.lo))
     if name == "mul":
         (al, ah), (bl, bh) = unsigned(a), unsigned(b)
-        return number(al * bl, ah * bh) if ah * bh < end else number(0, end - 1)
+        step = (a.mask & -a.mask) * (b.mask & -b.mask)  # what both are multiples of
+        return number(al * bl, ah * bh, -step & M64) if ah * bh < end else number(0, end - 1, -step & (end - 1))
     if name == "and":
         return anded(a, b)
     if name == "xor" and bits == 64 and b.is_const() and b.lo == M64:
@@ -231,7 +232,7 @@ def changed(change, a):
         if a.is_const():
             low = a.lo % (1 << width)
             return const(low if order == "le" else int.from_bytes(low.to_bytes(width // 8, "little"), "big"))
-        return number(0, (1 << width) - 1)
+        return number(int(a.lo > 0 and a.hi >> width == 0), (1 << width) - 1)
     width, bits = words
     half = 1 << bits - 1
     if a.is_const():

@@ -63,6 +63,14 @@ ACCEPTED = [
      "\n\tfor (u32 n = *(const u32 *)value; n; n /= 58)\n\t\tall = all * 256 + digits[n % 58];\n\treturn all;", [(Record(b"k", (58 * 57 + 9).to_bytes(4, "little")), 256 * ord("A") + ord("z")), (Record(b"k", bytes(4)), [])]),
     ("words", '\tu32 n;\n\tu64 copy[2] = {0};\n\tif (value_length < 20)\n\t\treturn 1;\n\tmemcpy(&n, value + 1, 4);\n\tmemcpy((u8 *)copy + 3, value + 2, 13);\n\tif (memcmp(value + 7, "abcdefg", 7) || memcmp(copy, value + 2, 16) > 0)\n\t\treturn 2;\n\treturn __builtin_bswap32(n) + ((u8 *)copy)[15];',
      [(Record(b"k", b"-\0\0\1\2--abcdefg......"), 258 + ord(".")), (Record(b"k", b"-\0\0\1\2--abcdefG......"), 2), (Record(b"k", b"---abcdefg---------"), 1)]),
+    ("rows", '\tconst u32 *row = (const u32 *)(value + 2);\n\tu64 all = 1;\n\tif (value_length < 2)\n\t\treturn 1;\n\tu16 rows = __builtin_bswap16(*(const u16 *)value);\n\tif (rows < 1 || rows > 5 || value_length != 2 + rows * 12)\n\t\treturn 2;'
+     '\n\tfor (int i = 0; i < rows; i++)\n\t\tall += row[3 * i] + row[3 * i + 2];\n\treturn all;', [(Record(b"k", b"\0\2" + bytes(8) + b"\1\0\0\0\7" + bytes(7) + b"\2\0\0\0"), 11), (Record(b"k", b"\0\2" + bytes(23)), 2), (Record(b"k", b"\0\0"), 2)]),
+    ("at_least", "\tif (value_length < 1 || value[0] > 8)\n\t\treturn 1;\n\tu64 n = value[0];\n\tif (value_length < 1 + n * 12)\n\t\treturn 2;\n\treturn n ? 3 + value[12 * n] : 4;",
+     [(Record(b"k", b"\2" + bytes(23) + b"\5"), 8), (Record(b"k", b"\2" + bytes(23)), 2), (Record(b"k", b"\0"), 4)]),
+    ("either_length", "\tu64 all = 1;\n\tif (key_length != 32 && key_length != 36)\n\t\treturn 2;\n\tfor (u64 i = 0; i < key_length; i++)\n\t\tall += key[i];\n\treturn all + key[31];", [(Record(b"a" * 32, b""), 33 * 97 + 1), (Record(b"b" * 36, b""), 37 * 98 + 1), (Record(b"a" * 33, b""), 2)]),
+    ("messages", "\tconst u8 *p = value, *end = value + value_length;\n\tu64 all = 1;\n\tfor (int n = 0; p < end; n++) {\n\t\tif (n == 4 || end - p < 2)\n\t\t\treturn 2;\n\t\tu16 length = p[0] << 8 | p[1];\n\t\tp += 2;\n\t\tif (end - p < length)\n\t\t\treturn 3;"
+     "\n\t\tall += length ? p[length - 1] : 0;\n\t\tp += length;\n\t}\n\treturn all;", [(Record(b"k", b"\0\3abc\0\0\0\1d"), 200), (Record(b"k", b"\0\3ab"), 3), (Record(b"k", b"\0"), 2)]),
+    ("from_the_end", "\tu64 start = key_length;\n\tif (key_length > 24)\n\t\treturn 1;\n\twhile (start > 0 && key[start - 1] != '/')\n\t\tstart--;\n\treturn start + 2;", [(Record(b"a/b/cd", b""), 6), (Record(b"abc", b""), 2), (Record(b"", b""), 2)]),
     ("no_room", "\tu8 to[4] = {0};\n\treturn 5 + load_value(to, 3, value_length & 0);", [(Record(b"k", b"ab"), 6), (Record(b"k", b"abc"), 5)]),
 ]
 
