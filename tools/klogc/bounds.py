@@ -290,17 +290,17 @@ class Bounds:
 
     def _narrow_length(self, region, c, lo, hi):
         least, most = self.least[region], self.most[region]
-        if -FAR < lo - c and hi - c < FAR:
-            low, high = max(lo - c, least), min(hi - c, most)
-            if low > high:
-                return False
-            self.least[region], self.most[region] = low, high
-            return self._settle_lengths()
-        ends = [(max(lo - c + k, least), min(hi - c + k, most)) for k in (0, 1 << 64, -1 << 64)]
+        ends = [(max(lo - c + k, least), min(hi - c + k, most)) for k in ((0,) if -FAR < lo - c and hi - c < FAR else (0, 1 << 64, -1 << 64))]
         ends = [(low, high) for low, high in ends if low <= high]
-        if ends:
-            self.least[region], self.most[region] = min(low for low, _ in ends), max(high for _, high in ends)
-        return bool(ends) and self._settle_lengths()
+        if not ends:
+            return False
+        self.least[region], self.most[region] = min(low for low, _ in ends), max(high for _, high in ends)
+        for one, other in (("value", "key"), ("key", "value")):
+            fact = self.facts.get((LENGTH_TERMS[one], other))
+            if fact is not None:
+                self.least[other] = max(self.least[other], self.least[one] + fact)
+                self.most[one] = min(self.most[one], self.most[other] - fact)
+        return self._settle_lengths()
 
 
 def touches(parts, terms):

@@ -71,6 +71,8 @@ ACCEPTED = [
     ("messages", "\tconst u8 *p = value, *end = value + value_length;\n\tu64 all = 1;\n\tfor (int n = 0; p < end; n++) {\n\t\tif (n == 4 || end - p < 2)\n\t\t\treturn 2;\n\t\tu16 length = p[0] << 8 | p[1];\n\t\tp += 2;\n\t\tif (end - p < length)\n\t\t\treturn 3;"
      "\n\t\tall += length ? p[length - 1] : 0;\n\t\tp += length;\n\t}\n\treturn all;", [(Record(b"k", b"\0\3abc\0\0\0\1d"), 200), (Record(b"k", b"\0\3ab"), 3), (Record(b"k", b"\0"), 2)]),
     ("from_the_end", "\tu64 start = key_length;\n\tif (key_length > 24)\n\t\treturn 1;\n\twhile (start > 0 && key[start - 1] != '/')\n\t\tstart--;\n\treturn start + 2;", [(Record(b"a/b/cd", b""), 6), (Record(b"abc", b""), 2), (Record(b"", b""), 2)]),
+    ("shorter", "\tu64 n = key_length < value_length ? key_length : value_length, head = 0;\n\tif (value_length > 9 || key_length > 9)\n\t\treturn 99;\n\twhile (head < n && key[head] == value[head])\n\t\thead++;\n\treturn head + 1;",
+     [(Record(b"abcd", b"abd"), 3), (Record(b"ab", b"abd"), 3), (Record(b"", b"abd"), 1)]),
     ("no_room", "\tu8 to[4] = {0};\n\treturn 5 + load_value(to, 3, value_length & 0);", [(Record(b"k", b"ab"), 6), (Record(b"k", b"abc"), 5)]),
 ]
 
