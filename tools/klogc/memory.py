@@ -120,7 +120,7 @@ class Memory(Jumps):
         """A load from a known place of the stack."""
         _, size, dst, _, _, is_signed = i
         if not 0 <= at <= STACK - size:
-            self.fail("bytes outside the stack are read")
+            self.never("bytes outside the variables are read: test first that the index is below the number of elements")
         if self.learned.variables.get(at) == size and not is_signed:
             v = s.variables.get(slot(at))
             if v is None:
@@ -161,7 +161,8 @@ class Memory(Jumps):
             self.define(s, dst, known, known.lo)
             return
         known = self.extended(size, is_signed)
-        inside = [addresses[at] for at in addresses if lo <= at < hi]
+        step = s.products[given.value.terms][1] if given.value.terms in s.products else 1
+        inside = [addresses[at] for at in addresses if lo <= at < hi and (at - given.value.c - offset) % step == 0]
         if inside and size == 8:
             known = self.one_of(inside)
         if lo < 0 or hi > len(data):
@@ -276,7 +277,7 @@ class Memory(Jumps):
             s.forget(lo, hi)
             return
         if not 0 <= lo <= STACK - size:
-            self.fail("bytes outside the stack are written")
+            self.never("bytes outside the variables are written: test first that the index is below the number of elements")
         kept = w if size == 8 or w.region is not None else cut(w, size)
         if dst == 10 and self.store_variable(s, lo, size, stored, kept):
             return

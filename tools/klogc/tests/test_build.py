@@ -73,6 +73,8 @@ ACCEPTED = [
     ("from_the_end", "\tu64 start = key_length;\n\tif (key_length > 24)\n\t\treturn 1;\n\twhile (start > 0 && key[start - 1] != '/')\n\t\tstart--;\n\treturn start + 2;", [(Record(b"a/b/cd", b""), 6), (Record(b"abc", b""), 2), (Record(b"", b""), 2)]),
     ("shorter", "\tu64 n = key_length < value_length ? key_length : value_length, head = 0;\n\tif (value_length > 9 || key_length > 9)\n\t\treturn 99;\n\twhile (head < n && key[head] == value[head])\n\t\thead++;\n\treturn head + 1;",
      [(Record(b"abcd", b"abd"), 3), (Record(b"ab", b"abd"), 3), (Record(b"", b"abd"), 1)]),
+    ("table_of_both", "\tstatic const struct { const char *text; u64 length, answer; } rows[] = {{\"order-\", 6, 1}, {\"user-\", 5, 2}, {\"log-\", 4, 3}};\n\tfor (int i = 0; i < 3; i++)\n\t\tif (key_length >= rows[i].length && !memcmp(key, rows[i].text, rows[i].length))\n\t\t\treturn rows[i].answer;\n\treturn 4;",
+     [(Record(b"order-1", b""), 1), (Record(b"user-", b""), 2), (Record(b"log-", b""), 3), (Record(b"log", b""), 4)]),
     ("no_room", "\tu8 to[4] = {0};\n\treturn 5 + load_value(to, 3, value_length & 0);", [(Record(b"k", b"ab"), 6), (Record(b"k", b"abc"), 5)]),
 ]
 
