@@ -131,9 +131,23 @@ class Lowering(Library):
 
     def block(self, block: Block, s: State):
         self.names = self.names_of(block.path)
+        self.rest(block, s, 0)
+
+    def rest(self, block: Block, s: State, first):
+        """A block from an instruction on, on each of the ways on which it goes on by itself."""
+        steps = self.steps_of(block)
         try:
-            for self.here, i in self.steps_of(block):
+            for k in range(first, len(steps)):
+                self.here, i = steps[k]
                 self.instruction(s, i, block)
+                if self.forks:
+                    forks, self.forks = self.forks, []
+                    for label, t, dst, v in forks:
+                        self.here = steps[k][0]
+                        self.start(label)
+                        self.define(t, dst, v, v.lo)
+                        self.rest(block, t, k + 1)
+                    return
             if i[0] == "local" and self.library_call(s, i):
                 self.emit(Goto(self.edge(self.here._replace(slot=self.here.slot + 1), s)))
             elif i[0] not in ("jump", "exit"):

@@ -1,12 +1,13 @@
 """Lowers loads and stores: an address is a place in a known region, and the base is added just before each access."""
-from .code import BASE, FRAME, LENGTH, OUTSIDE, ROOM, Alu, Bound, Call, Load, Move, Point, PointAt, Store, Test, Variable
+from .code import BASE, FRAME, LENGTH, OUTSIDE, ROOM, Alu, Bound, Call, Goto, Load, Move, Point, PointAt, Store, Test, Variable
 from .jumps import Jumps
 from .program import STACK
 from .state import Held, State
-from .values import M64, MIXED, Value, changed, const, low32, number, signed, unsigned
+from .values import M64, MIXED, Value, changed, const, low32, number, signed, small, unsigned
 from .writer import Given, region_text
 
 FAR_OFFSET = 32000
+MOST_WAYS = 8
 
 
 def span(v, offset, size):
@@ -161,16 +162,36 @@ class Memory(Jumps):
             self.define(s, dst, known, known.lo)
             return
         known = self.extended(size, is_signed)
-        step = s.products[given.value.terms][1] if given.value.terms in s.products else 1
-        inside = [addresses[at] for at in addresses if lo <= at < hi and (at - given.value.c - offset) % step == 0]
+        places = self.places_of(s, given.value, offset, lo, hi - size)
+        inside = [at for at in (addresses if places is None else places) if at in addresses and lo <= at <= hi - size]
         if inside and size == 8:
-            known = self.one_of(inside)
+            if self.settings.fine and places is not None and len(inside) == len(places) <= MOST_WAYS:
+                self.fork(s, dst, given, {at - offset: addresses[at] for at in inside})
+                return
+            known = self.one_of([addresses[at] for at in inside]) if places is None or len(inside) == len(places) else number(0, M64, region=MIXED)
         if lo < 0 or hi > len(data):
             self.may_fault("an index may lead outside a constant: test first that it is below the number of elements")
         first, last = self.constant_range(section, lo, hi, len(data))
         at, add = self.point(s, given, offset, (first, last - size), FRAME, self.constants_at.get(section, 0) - STACK)
         self.emit(Load(size, is_signed, self.name(dst), at, add))
         self.set(s, dst, known)
+
+    def fork(self, s: State, dst, given: Given, addresses):
+        """The way on from here is apart for each place that an address has, from which another address is loaded."""
+        last = max(addresses)
+        for place, (section, at) in addresses.items():
+            t, label = s.copy(), self.label()
+            t.narrow(given.value, place, place)
+            self.emit(Goto(label) if place == last else Test("eq", 64, given.written, place, label, False))
+            self.forks.append((label, t, dst, const(at, ("constants", section))))
+
+    @staticmethod
+    def places_of(s: State, v, offset, lo, hi):
+        """The places from lo to hi that an address may be, where it is known of what its index is a multiple; or None."""
+        if v.terms not in s.products:
+            return None
+        step = s.products[v.terms][1]
+        return range(lo + (small(v.c) + offset - lo) % step, hi + 1, step)
 
     def one_of(self, addresses):
         """One of several addresses of constants."""

@@ -50,6 +50,7 @@ class Writer:
     def __init__(self, program: Program, settings: Settings, learned: Learned):
         self.program, self.settings, self.learned = program, settings, learned
         self.blocks, self.size, self.made = [], 0, 0
+        self.forks: list = []  # ways on from an instruction: their labels, what is known there, and what a register has
         self.again = False  # whether it learned what it did not know from the beginning; then it goes on only to learn more
         self.rejects: dict[str, set] = {trap: set() for trap in TRAPS}
         self.here: Place = program.entry
