@@ -37,6 +37,8 @@ class Memory(Jumps):
 
     def touch(self, lo, hi):
         """Bytes of the stack are used otherwise than as one variable."""
+        if lo >= hi:
+            return
         variables = self.learned.variables
         self.learned.memory.update(range(lo, hi))
         hit = [at for at, size in variables.items() if at < hi and lo < at + size]

@@ -76,6 +76,7 @@ ACCEPTED = [
     ("table_of_both", "\tstatic const struct { const char *text; u64 length, answer; } rows[] = {{\"order-\", 6, 1}, {\"user-\", 5, 2}, {\"log-\", 4, 3}};\n\tfor (int i = 0; i < 3; i++)\n\t\tif (key_length >= rows[i].length && !memcmp(key, rows[i].text, rows[i].length))\n\t\t\treturn rows[i].answer;\n\treturn 4;",
      [(Record(b"order-1", b""), 1), (Record(b"user-", b""), 2), (Record(b"log-", b""), 3), (Record(b"log", b""), 4)]),
     ("texts_by_index", '\tstatic const char *const names[] = {"Sunday", "Monday", "Tuesday"};\n\tconst char *name = names[value_length % 3];\n\treturn emit_value(0, name, strlen(name));', [(Record(b"k", b""), [Emission(0, b"k", b"Sunday")]), (Record(b"k", b"ab"), [Emission(0, b"k", b"Tuesday")])]),
+    ("no_bytes", "\tu64 row[2] = {value_length, 7};\n\treturn emit_value(0, (u8 *)row + 4, 0);", [(Record(b"k", b"ab"), [Emission(0, b"k", b"")])]),
     ("no_room", "\tu8 to[4] = {0};\n\treturn 5 + load_value(to, 3, value_length & 0);", [(Record(b"k", b"ab"), 6), (Record(b"k", b"abc"), 5)]),
 ]
 
