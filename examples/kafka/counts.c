@@ -122,18 +122,18 @@ static void write_codes(FILE *file, const struct options *options, const struct 
 	}
 }
 
-/* Writes how many records of each partition are still to come. One of which nothing was fetched yet has no line. */
+/* Writes how many records of each partition are still to come. One whose first or last offset is not known has no line. */
 static void write_lag(FILE *file, const struct options *options, struct worker *worker)
 {
 	for (size_t k = 0; k < worker->place_count; k++) {
 		const struct place *place = &worker->places[k];
 		int64_t low, high;
-		if (!place->is_assigned ||
+		if (!place->is_assigned || place->committed < 0 ||
 		    rd_kafka_get_watermark_offsets(worker->consumer, options->input, (int32_t)k, &low, &high) || high < 0)
 			continue;
-		int64_t from = place->committed >= 0 ? place->committed : low;
+		int64_t lag = high - place->committed;
 		write_name(file, options, "klog_lag");
-		fprintf(file, ",partition=\"%zu\"} %lld\n", k, (long long)(high > from ? high - from : 0));
+		fprintf(file, ",partition=\"%zu\"} %lld\n", k, (long long)(lag > 0 ? lag : 0));
 	}
 }
 

@@ -117,10 +117,25 @@ static void keep_committed(struct worker *worker, const rd_kafka_topic_partition
 		worker->places[k].said = 0;
 	for (int k = 0; k < places->cnt; k++) {
 		struct place *place = place_of(worker, places->elems[k].partition);
+		bool is_known = !places->elems[k].err && places->elems[k].offset >= 0;
 		if (place)
-			place->committed = places->elems[k].offset >= 0 ? places->elems[k].offset : -1;
+			place->committed = is_known ? places->elems[k].offset : -1;
 	}
 	pthread_mutex_unlock(&worker->lock);
+}
+
+/* Asks where the partitions begin that have no committed offset: the group goes on from there. Without an answer their lag
+ * is not known. */
+static void learn_firsts(struct worker *worker, const rd_kafka_topic_partition_list_t *places)
+{
+	rd_kafka_topic_partition_list_t *firsts = rd_kafka_topic_partition_list_new(places->cnt);
+	for (int k = 0; k < places->cnt; k++)
+		if (places->elems[k].offset < 0)
+			rd_kafka_topic_partition_list_add(firsts, worker->options->input, places->elems[k].partition)->offset =
+				RD_KAFKA_OFFSET_BEGINNING;
+	if (firsts->cnt && !rd_kafka_offsets_for_times(worker->consumer, firsts, LAST_WAIT))
+		keep_committed(worker, firsts, false);
+	rd_kafka_topic_partition_list_destroy(firsts);
 }
 
 next_step learn_places(struct worker *worker, bool is_back)
@@ -132,8 +147,10 @@ next_step learn_places(struct worker *worker, bool is_back)
 	fault = ask_committed(worker, places);
 	if (!fault && is_back)
 		fault = rd_kafka_assign(worker->consumer, places->cnt ? places : NULL);
-	if (!fault)
+	if (!fault) {
 		keep_committed(worker, places, is_back);
+		learn_firsts(worker, places);
+	}
 	rd_kafka_topic_partition_list_destroy(places);
 	return fault ? stop(worker, END, "committed offsets: %s", rd_kafka_err2str(fault)) : GO_ON;
 }

@@ -49,8 +49,10 @@ static bool load(struct image *image, const uint8_t *bytes, size_t length)
 		atomic_fetch_add(&image->loads, 1);
 	}
 	pthread_mutex_unlock(&image->lock);
-	if (!fault)
+	if (!fault) {
+		say(NULL, "%s taken: program %s", image->name, digest);
 		return true;
+	}
 	if (klog_fault_text(fault, place, text, sizeof text - 1, &text_length))
 		text_length = 0;
 	text[text_length] = 0;

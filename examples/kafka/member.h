@@ -111,7 +111,7 @@ __attribute__((format(printf, 2, 3))) void say(const struct worker *worker, cons
 struct place {
 	bool is_assigned;
 	int64_t next;      /* the offset after the records of this transaction, -1 where it has none of here */
-	int64_t committed; /* the offset that the group goes on from, -1 where there is none */
+	int64_t committed; /* the offset that the group goes on from, -1 where that is not known */
 	unsigned said;     /* the load whose program was said to run on it, 0 for none */
 	uint32_t last;     /* the number of its last record that was polled, NONE where there is none */
 };
@@ -175,7 +175,7 @@ bool is_again(const struct worker *worker, rd_kafka_error_t **error);
 
 void shared_anew(rd_kafka_t *consumer, rd_kafka_resp_err_t why, rd_kafka_topic_partition_list_t *places, void *worker);
 
-/* Asks where the group's committed offsets are, for the lag, and goes on from there if `is_back`. */
+/* Asks from which offsets the group goes on, for the lag, and goes back there if `is_back`. */
 next_step learn_places(struct worker *worker, bool is_back);
 
 /* The offsets after the records of this transaction. */

@@ -91,6 +91,7 @@ class Image:
         if self.program is not None:
             self.program.free()
         self.stamp, self.program, self.digest = stamp, program, hashlib.sha256(image).hexdigest()[:16]
+        say(f"{self.name} taken: program {self.digest}")
 
 
 class Member:

@@ -9,8 +9,9 @@ Not part of the build. On Debian, with the member that the Makefile of examples/
 There is one of each kind: a key, a value, headers, a header's key and a header's value beyond klog's limits, a header's
 key that is no UTF-8, no timestamp, an output that is longer than message.max.bytes, and a record that the program
 rejects. With --dead all are in the topic of dead letters; without it all but the rejected are skipped; with --strict the
-member ends at the first. The metrics of the first two are read, and a program that is none is refused. The program comes
-in a program file of helper table 3, and the records between have null and empty keys, headers, and times that fall.
+member ends at the first. The metrics of the first two are read, also the lag of a partition that has no records, and a
+program that is none is refused. The program comes in a program file of helper table 3, and the records between have null
+and empty keys, headers, and times that fall.
 """
 import os
 import re
@@ -81,7 +82,7 @@ class Run:
 
     def __init__(self, member, folder, *words):
         self.folder, self.metrics = folder, f"{folder}/metrics"
-        self.front = Front(MockCluster({"in": 1, "out": 1, "dead": 1}))
+        self.front = Front(MockCluster({"in": 2, "out": 2, "dead": 1}))
         self.offsets = fill(self.front.mock)
         with open(f"{folder}/image", "wb") as file:
             file.write(written(3, DROP_SHORT, b"0 drop_short.c:3\n"))
@@ -109,11 +110,19 @@ class Run:
     def end(self):
         """Ends a member that has taken all; the values of its metrics."""
         self.wait(lambda: self.front.committed.get(("g", "in", 0)) == 10 * len(KINDS), "committed offsets")
+        self.wait(lambda: self.lags() == [("0", "0"), ("1", "0")], "lag of 0")
         self.process.terminate()
         if self.process.wait(60):
             self.fail(f"status {self.process.returncode}")
         with open(self.metrics) as file:
             return dict(re.findall(r'^(\w+)\{group="g",member="n"(?:,code="1")?\} (\d+)$', file.read(), re.M))
+
+    def lags(self):
+        """The lag of each partition, as the metrics have it."""
+        if not os.path.exists(self.metrics):
+            return []
+        with open(self.metrics) as file:
+            return re.findall(r'^klog_lag\{group="g",member="n",partition="(\d)"\} (.*)$', file.read(), re.M)
 
     def compare_outputs(self):
         found = [(message.timestamp()[1], message.key(), message.value(), message.headers() or [])
