@@ -37,7 +37,8 @@ import time
 
 from confluent_kafka import OFFSET_BEGINNING, Consumer, KafkaError, Producer, TopicPartition
 
-from mock_kafka import Front, MockCluster
+from mock_cluster import MockCluster
+from mock_kafka import Front
 
 TOP = os.path.join(os.path.dirname(os.path.abspath(__file__)), "..", "..")
 PARTITIONS, OUTPUTS, DEAD = 4, ["out0", "out1", "out2", "out3"], "dead"

@@ -14,7 +14,7 @@ import subprocess
 import sys
 import time
 
-from mock_kafka import MockCluster
+from mock_cluster import MockCluster
 
 TOP = os.path.join(os.path.dirname(os.path.abspath(__file__)), "..", "..")
 LINES, KEEP = f"{TOP}/examples/library/lines.py", f"{TOP}/examples/c/filter_first_byte.bin"  # keeps values with an A in front

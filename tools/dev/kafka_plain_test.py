@@ -25,7 +25,7 @@ from kafka.record.memory_records import MemoryRecords
 from kafka.record.util import calc_crc32c
 
 from kafka_clients import Broker, built_sarama
-from mock_kafka import control_batch
+from mock_cluster import control_batch
 
 TOP = os.path.join(os.path.dirname(os.path.abspath(__file__)), "..", "..")
 CODECS = ["none", "gzip", "snappy", "lz4", "zstd"]

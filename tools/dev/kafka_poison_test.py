@@ -25,7 +25,8 @@ from confluent_kafka import OFFSET_BEGINNING, Consumer, KafkaError, TopicPartiti
 
 from kafka_group_test import DROP_SHORT
 from make_segment import batch_of
-from mock_kafka import Front, MockCluster, crc32c
+from mock_cluster import MockCluster, crc32c
+from mock_kafka import Front
 from program_files import written
 
 TIME, LONGEST = 1700000000000, 1100000

@@ -32,7 +32,8 @@ import time
 from confluent_kafka import Consumer, TopicPartition
 
 from make_segment import batch_of, some_record
-from mock_kafka import Front, MockCluster
+from mock_cluster import MockCluster
+from mock_kafka import Front
 
 TOP = os.path.join(os.path.dirname(os.path.abspath(__file__)), "..", "..")
 PARTITIONS, BATCH = 64, 500

@@ -20,7 +20,7 @@ import tempfile
 from confluent_kafka import Consumer, TopicPartition
 from kafka.record import MemoryRecords
 
-from mock_kafka import MockCluster
+from mock_cluster import MockCluster
 
 TOOLS = os.path.dirname(os.path.abspath(__file__))
 # Debian's python3-confluent-kafka 1.7 drops references to None that it doesn't own, and Python aborts when none is left: at
