@@ -164,25 +164,3 @@ rd_kafka_topic_partition_list_t *offsets_after(const struct worker *worker)
 				worker->places[k].next;
 	return places;
 }
-
-bool count_partitions(struct worker *worker, const char *topic, int32_t wanted, int32_t *found)
-{
-	const struct rd_kafka_metadata *told;
-	rd_kafka_topic_t *handle = rd_kafka_topic_new(worker->producer, topic, NULL);
-	if (!handle)
-		return stop(worker, END, "%s: %s", topic, rd_kafka_err2str(rd_kafka_last_error())), false;
-	rd_kafka_resp_err_t fault = rd_kafka_metadata(worker->producer, 0, handle, &told, WAIT);
-	rd_kafka_topic_destroy(handle);
-	if (fault)
-		return stop(worker, END, "%s: %s", topic, rd_kafka_err2str(fault)), false;
-	if (told->topic_cnt == 1)
-		fault = told->topics[0].err;
-	*found = told->topic_cnt == 1 ? told->topics[0].partition_cnt : 0;
-	rd_kafka_metadata_destroy(told);
-	if (fault || *found == 0)
-		return stop(worker, END, "%s: %s", topic, fault ? rd_kafka_err2str(fault) : "no partitions"), false;
-	if (wanted && *found != wanted)
-		return stop(worker, END, "%s has %d partitions, and %s %d: each output needs as many as the input", topic,
-			    *found, worker->options->input, wanted), false;
-	return true;
-}

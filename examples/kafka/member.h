@@ -154,7 +154,6 @@ struct worker {
 	struct counts committed;
 };
 
-/* Makes the clients of a worker, and looks whether the topics fit each other. */
 bool open_worker(struct worker *worker);
 void *run_worker(void *worker);
 void close_worker(struct worker *worker);
@@ -171,6 +170,12 @@ next_step after(struct worker *worker, const char *call, rd_kafka_error_t *error
 /* Whether a call that failed can be made again: the cluster says so. The fault is freed then. */
 bool is_again(const struct worker *worker, rd_kafka_error_t **error);
 
+/* clients.c */
+
+/* Makes the clients of a worker, and looks whether the topics fit each other. */
+bool open_clients(struct worker *worker);
+void close_clients(struct worker *worker);
+
 /* group.c: what the group gives to a worker */
 
 void shared_anew(rd_kafka_t *consumer, rd_kafka_resp_err_t why, rd_kafka_topic_partition_list_t *places, void *worker);
@@ -180,9 +185,6 @@ next_step learn_places(struct worker *worker, bool is_back);
 
 /* The offsets after the records of this transaction. */
 rd_kafka_topic_partition_list_t *offsets_after(const struct worker *worker);
-
-/* Whether a topic has as many partitions as are wanted; any number will do where that is 0. The number that it has. */
-bool count_partitions(struct worker *worker, const char *topic, int32_t wanted, int32_t *found);
 
 /* record.c */
 
