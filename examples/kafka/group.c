@@ -1,7 +1,6 @@
 /* What the group gives to a worker: its partitions, and the offsets that it goes on from. */
 #include "member.h"
 #include <stdlib.h>
-#include <string.h>
 
 enum { PARTITIONS_SAID = TEXT - 64 };
 

@@ -19,7 +19,8 @@ and changed: member.c beside it takes some times more records, and goes on at on
   said. One that the verifier refuses, or that is gone, is said too, and the program before it goes on. Replace the file
   by a rename.
 - A program sees the number of the partition modulo 64. A record that klog does not take (a key above 4,096 bytes, a
-  value above 1,048,576, more than 16 headers, no timestamp) ends the member, with its place.
+  value above 1,048,576, more than 16 headers, no timestamp) ends the member, with its place. So do some thousands of
+  headers with a null value, by a fault of Debian 12's confluent-kafka (1.7).
 
 What fails for good ends the process with status 1: let a supervisor start it again. SIGTERM ends it after the
 transaction that is under way.
