@@ -35,8 +35,8 @@ extern "C" {
 /* What a call returns. Of a refused image it is 101 to 106, the faults I1 to I6, at a slot of 8 bytes of the
  * image, or 201 to 213, the faults V1 to V13, at an instruction. Of a refused record batch it is 301 to 309, the
  * faults B1 to B9, and of a refused program file 401 to 404, the faults G1 to G4. Of a refused text of rules it is 501 to
- * 507, the faults E1 to E7, at a line and a column, or 509 or 510, E9 or E10, of a rule. docs/reference/faults.md has their
- * causes and cures. */
+ * 507, the faults E1 to E7, at a line and a column, or 509, E9, of a rule. docs/reference/faults.md has their causes
+ * and cures. */
 enum {
 	KLOG_OK = 0,
 	KLOG_MEMORY = 1, /* memory ran out */
@@ -85,7 +85,7 @@ typedef struct klog_handle {
 typedef struct klog_spot {
 	size_t line;   /* of the faults 501 to 507, the line that can't go on, from 1; else 0 */
 	size_t column; /* and the byte of it at which it can't, from 1; else 0 */
-	size_t rule;   /* of the faults 509 and 510, the rule, from 1; else 0 */
+	size_t rule;   /* of the fault 509, the rule, from 1; else 0 */
 } klog_spot;
 
 /* Where record batches are. */
@@ -164,7 +164,7 @@ uint32_t klog_load(const uint8_t *bytes, size_t length, uint32_t table, klog_han
 /* Compiles the rules of a text of `length` bytes, and writes the program file that `klog rule` makes of them to the front of
  * a buffer of `room` bytes, of which the rest is as it was, and its length to `*written`. klog_load accepts it by
  * KLOG_TABLE_OWN, and the program means what the rules say (docs/guide/rules.md). Of a refused text the number is 501 to
- * 507, 509 or 510, and `*spot` is then where; else `*spot` is as it was. KLOG_ROOM: the buffer is too short; `*written` is
+ * 507 or 509, and `*spot` is then where; else `*spot` is as it was. KLOG_ROOM: the buffer is too short; `*written` is
  * what it needs. KLOG_COMPILED bytes are enough for each text. KLOG_NULL: `written` or `spot` is null, or `text` or `buffer`
  * is null and its length is not 0. KLOG_MEMORY. */
 uint32_t klog_compile(const uint8_t *text, size_t length, uint8_t *buffer, size_t room, size_t *written, klog_spot *spot);

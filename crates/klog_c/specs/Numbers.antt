@@ -63,10 +63,9 @@ rule_number (rule.Many spot) = 506
 rule_number (rule.End spot) = 507
 rule_number rule.Memory = 1
 
--- the number of a fault of rules that are not compiled, and the rule that it is about: E9 and E10 are 509 and 510.
+-- the number of a fault of rules that are not compiled, and the rule that it is about: E9 is 509.
 -- Where memory ran out it is 1, and about no rule.
 abbrev pub compile_told : CompileFault → ℕ × ℕ
-compile_told (compile.Header number) = (510, number)
 compile_told (compile.Slots number) = (509, number)
 compile_told compile.Memory = (1, 0)
 

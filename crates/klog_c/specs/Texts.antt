@@ -9,8 +9,7 @@ rule_fault_name n =
     if n == 501 then codes "E1 Word" else if n == 502 then codes "E2 Number" else
     if n == 503 then codes "E3 Text" else if n == 504 then codes "E4 Long" else
     if n == 505 then codes "E5 Deep" else if n == 506 then codes "E6 Many" else
-    if n == 507 then codes "E7 End" else if n == 509 then codes "E9 Slots" else
-    if n == 510 then codes "E10 Header" else codes "no fault"
+    if n == 507 then codes "E7 End" else if n == 509 then codes "E9 Slots" else codes "no fault"
 
 -- the name of a fault of a program file, or of a text of rules
 abbrev pub file_fault_name : ℕ → List ℕ

@@ -96,13 +96,12 @@ pub(crate) fn rule_number(fault: RuleFault) -> u32
     }
 }
 
-/// The number of a fault of rules that are not compiled, and the rule that it is about; 0 where it is about none. E9 and
-/// E10 are 509 and 510.
+/// The number of a fault of rules that are not compiled, and the rule that it is about; 0 where it is about none. E9 is
+/// 509.
 pub(crate) fn compile_told(fault: CompileFault) -> (u32, usize)
     ensures { result ≡ definitions.compile_told fault }
 {
     match fault {
-        CompileFault::Header(rule) => (510, rule),
         CompileFault::Slots(rule) => (509, rule),
         CompileFault::Memory => (MEMORY, 0),
     }

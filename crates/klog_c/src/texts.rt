@@ -60,7 +60,6 @@ fn name_of(number: u32) -> &'static str
         506 => "E6 Many",
         507 => "E7 End",
         509 => "E9 Slots",
-        510 => "E10 Header",
         _ => "no fault",
     }
 }
