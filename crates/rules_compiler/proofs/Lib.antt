@@ -11,6 +11,7 @@ pub mod SearchFlows
 pub mod ValueFlows
 pub mod TermFlows
 pub mod Shapes
+pub mod AddedFlows
 pub mod RuleFlows
 pub mod Courses
 pub mod LayoutEffects
