@@ -22,13 +22,13 @@ use Rattle.rules.specs.declared.rule.Test.TheVariants as test
 use Rattle.rules.specs.Lines.{Formula, Single, Negated, Both, Either}
 use Rattle.rules.specs.Meaning.{is_null, is_absent, test_equals, test_begins, passes_if, term_value, compares, compares_if, test_holds, holds}
 use Rattle.rules.specs.Limits.{IsText, FitsPart, FitsTerm, FitsTest, HasFitting}
-use Rattle.rules_compiler.specs.Code.{Code, Plain, Unless}
+use Rattle.rules_compiler.specs.Code.{Code, Plain, Then, Unless}
 use Rattle.rules_compiler.specs.Pieces.{set, change, number_code, word_count, text_code, part_code, measure}
 use Rattle.rules_compiler.specs.Terms.{term_code}
 use Rattle.rules_compiler.specs.Tests.{value_test_code, is_short, equal_code, begins_code}
 use Rattle.rules_compiler.proofs.ValueEffects.{equal_texts, value_equal_decides, value_begins_decides}
 use Rattle.rules.specs.declared.rule.Part.TheVariants as part
-use Rattle.rules_compiler.specs.Tests.{stands, text_test_code, length_test_code, test_of, comparing_code, compare_code, test_code}
+use Rattle.rules_compiler.specs.Tests.{sized, stands, text_test_code, length_test_code, test_of, comparing_code, compare_code, test_code}
 use Rattle.rules_compiler.specs.Rules.{condition_code}
 use Rattle.rules_compiler.specs.declared.pieces.TheConstants.{NEAR}
 use Rattle.rules_compiler.proofs.Ready.{Ready, small_immediate}
@@ -46,6 +46,7 @@ use Rattle.rules_compiler.proofs.Courses.{bytes_of_found, enter_decides, list_de
 use Rattle.rules_compiler.proofs.Courses.{measures}
 use Rattle.rules_compiler.proofs.Courses.{skip_decides, then_decides}
 use Rattle.rules_compiler.proofs.TermEffects.{term_values}
+use Rattle.rules_compiler.proofs.TextEffects.{equal_test, begins_test}
 
 -- ---- tests of lengths
 
@@ -78,152 +79,6 @@ module _ (input : Input) (given : IsInput input) (s : State) (ready : Ready inpu
 
   absent_decides : (p : Part) → FitsPart IsText p → Decides input (length_test_code p (pos 0)) s (is_absent p input.given)
   absent_decides p fits = length_decides p 0 (is_absent p input.given) fits refl (absent_is p input.given)
-
--- ---- texts
-
--- r8 says whether a part begins with a text, and r0 has what the helper says of its length
-pub record Asks (input : Input) (p : Part) (text : List ℕ) (s : State) : Type 0 where
-  pub state : State
-  pub runs : run input (Plain (part_code p ++ (text_code NEAR text ++ stands (length text)))) s ≡ On state
-  pub ready : Ready input state
-  pub answer : state.registers 0 ≡ Number (length_answer (found p input.given))
-  pub truth : state.registers 8
-      ≡ Number (bit_of (starts_with nat_eq (bytes_of_found (found p input.given)) text))
-
-bit_is : (b : Bool) → (if b then 1 else 0) ≡ bit_of b
-bit_is true = refl
-bit_is false = refl
-
-begins_is : (part text : List ℕ) → (if stand_at part text 0 then 1 else 0) ≡ bit_of (starts_with nat_eq part text)
-begins_is part text =
-    let low = le-leb 0 (length part) (omega arith) in
-    rw low (bit_is (starts_with nat_eq part text))
-
-module _ (input : Input) (t : State) (ready : Ready input t) (text : List ℕ) (few : length text ≤ 255) (number : ℕ)
-    (is : t.registers 6 ≡ Number number) (holds : HoldsText t.stack text (word_count (length text))) where
-  asked_ready : Ready input (run_list input (stands (length text)) t)
-  unfolding state_after helper_among
-  asked_ready = assumption ready
-
-  asked_answer : (run_list input (stands (length text)) t).registers 0
-      ≡ Number (length_answer (part_in input.given (part_numbered number)))
-  unfolding state_after helper_among
-  asked_answer = rw is refl
-
-  asked_truth : (run_list input (stands (length text)) t).registers 8
-      ≡ Number (if stand_at (bytes_of_found (part_in input.given (part_numbered number))) text 0 then 1 else 0)
-  unfolding state_after helper_among
-  asked_truth =
-      let frame = ready.frame_is in
-      let read = text_read 256 input t.stack text (immediate Bits64 (pos (length text)))
-      (result_of Bits64 Add (t.registers 10) (Number (immediate Bits64 NEAR))) (Number (immediate Bits64 (pos (length text))))
-      holds (rw frame refl) refl (small_immediate (length text) (omega arith)) in
-      rw (is, read) refl
-
-asks : (input : Input) → IsInput input → (s : State) → Ready input s → (p : Part) (text : List ℕ) → FitsPart IsText p →
-    IsText text → Asks input p text s
-asks input given s ready p text fits is =
-    let r = part_run input given p fits s ready in
-    let t = run_list input (part_code p) s in
-    let has = text_has input near_stands text (bytes_of_text text is) is.few t r.ready in
-    let u = run_list input (text_code NEAR text) t in
-    let six = has.kept 6 ∙ r.is in
-    let one = runs_both input (part_code p) (text_code NEAR text ++ stands (length text)) s in
-    let two = runs_both input (text_code NEAR text) (stands (length text)) t in
-    record {
-      state = run_list input (stands (length text)) u;
-      runs = ap On (one ∙ two);
-      ready = asked_ready input u has.ready text is.few r.number six has.holds;
-      answer = asked_answer input u has.ready text is.few r.number six has.holds
-          ∙ ap (λ (o : Option (Option (List ℕ))). Number (length_answer o)) r.names;
-      truth = asked_truth input u has.ready text is.few r.number six has.holds
-          ∙ ap (λ (o : Option (Option (List ℕ))). Number (if stand_at (bytes_of_found o) text 0 then 1 else 0)) r.names
-          ∙ ap Number (begins_is (bytes_of_found (found p input.given)) text);
-    }
-
-module _ (input : Input) (t : State) (ready : Ready input t) (how : Jumps) (n a : ℕ) (c : Bool)
-    (small : immediate Bits64 (pos n) ≡ n) (answer : t.registers 0 ≡ Number a) (truth : t.registers 8 ≡ Number (bit_of c)) where
-  asked_decides : (b : Bool) → is_taken Bits64 how (Number a) (Number n) ≡ b →
-      Decides input (Unless how 0 (Immediate (pos n)) (Plain (set 8 (pos 0) ∷ []))) t (b && c)
-  unfolding state_after
-  asked_decides true is = skip_decides input how 0 (Immediate (pos n)) (Plain (set 8 (pos 0) ∷ [])) t c
-      (rw (answer, small) is) ready truth
-  asked_decides false is = enter_decides input how 0 (Immediate (pos n)) (Plain (set 8 (pos 0) ∷ [])) t false
-      (rw (answer, small) is) (list_decides input (set 8 (pos 0) ∷ []) (goes_to t (t.slot + 1)) false (assumption ready) refl)
-
-text_decides : (input : Input) → IsInput input → (s : State) → Ready input s → (p : Part) (text : List ℕ) (how : Jumps)
-    (n : ℕ) → FitsPart IsText p → IsText text → immediate Bits64 (pos n) ≡ n → Decides input (text_test_code p text how n) s
-    (is_taken Bits64 how (Number (length_answer (found p input.given))) (Number n)
-    && starts_with nat_eq (bytes_of_found (found p input.given)) text)
-unfolding text_test_code
-text_decides input given s ready p text how n fits is small =
-    let a = asks input given s ready p text fits is in
-    let b = is_taken Bits64 how (Number (length_answer (found p input.given))) (Number n) in
-    let c = starts_with nat_eq (bytes_of_found (found p input.given)) text in
-    then_decides input (Plain (part_code p ++ (text_code NEAR text ++ stands (length text))))
-    (Unless how 0 (Immediate (pos n)) (Plain (set 8 (pos 0) ∷ []))) s a.state (b && c) a.runs
-    (asked_decides input a.state a.ready how n (length_answer (found p input.given)) c small a.answer a.truth b refl)
-
-equal_is : (o : Option (Option (List ℕ))) (text : List ℕ) →
-    ((length_answer o == length text + 2) && starts_with nat_eq (bytes_of_found o) text)
-    ≡ passes_if (λ bytes. bytes_eq bytes text) (unwrap_or o None)
-equal_is None text = let test = ne_eqb 0 (length text + 2) (λ e. omega arith) in rw test refl
-equal_is (Some None) text = let test = ne_eqb 1 (length text + 2) (λ e. omega arith) in rw test refl
-equal_is (Some (Some bytes)) text = equal_texts bytes text
-
-begin_is : (o : Option (Option (List ℕ))) (text : List ℕ) →
-    (nat_le 2 (length_answer o) && starts_with nat_eq (bytes_of_found o) text)
-    ≡ passes_if (λ bytes. starts_with nat_eq bytes text) (unwrap_or o None)
-begin_is None text = refl
-begin_is (Some None) text = refl
-begin_is (Some (Some bytes)) text = let test = le-leb 2 (length bytes + 2) (omega arith) in rw test refl
-
-module _ (input : Input) (given : IsInput input) (s : State) (ready : Ready input s) where
-  equal_decides : (p : Part) (text : List ℕ) → FitsPart IsText p → IsText text →
-      Decides input (text_test_code p text jumps.Equal (length text + 2)) s (test_equals p text input.given)
-  equal_decides p text fits is =
-      let few = is.few in
-      subst (Decides input (text_test_code p text jumps.Equal (length text + 2)) s)
-      (equal_is (found p input.given) text
-      ∙ ap (passes_if (λ bytes. bytes_eq bytes text)) (sym (bytes_found p input.given)))
-      (text_decides input given s ready p text jumps.Equal (length text + 2) fits is
-      (small_immediate (length text + 2) (omega arith)))
-
-  begin_decides : (p : Part) (text : List ℕ) → FitsPart IsText p → IsText text →
-      Decides input (text_test_code p text jumps.GreaterOrEqual 2) s (test_begins p text input.given)
-  begin_decides p text fits is =
-      subst (Decides input (text_test_code p text jumps.GreaterOrEqual 2) s)
-      (begin_is (found p input.given) text
-      ∙ ap (passes_if (λ bytes. starts_with nat_eq bytes text)) (sym (bytes_found p input.given)))
-      (text_decides input given s ready p text jumps.GreaterOrEqual 2 fits is refl)
-
--- a short text of the value is compared byte by byte
-short_some : (text : List ℕ) → is_short text ≡ true → 1 ≤ length text
-short_some [] short = absurd cc
-short_some (byte ∷ text) short = omega arith
-
-module _ (input : Input) (given : IsInput input) (s : State) (ready : Ready input s) where
-  equal_test : (p : Part) (text : List ℕ) → FitsPart IsText p → IsText text →
-      Decides input (equal_code p text) s (test_equals p text input.given)
-  unfolding equal_code
-  equal_test part.Value text fits is = cond_both (is_short text) (value_test_code text jumps.NotEqual)
-      (text_test_code part.Value text jumps.Equal (length text + 2))
-      (λ code. Decides input code s (test_equals part.Value text input.given))
-      (λ short. value_equal_decides input given s ready text is (short_some text short))
-      (λ long. equal_decides input given s ready part.Value text fits is)
-  equal_test part.Key text fits is = equal_decides input given s ready part.Key text fits is
-  equal_test (part.Header key) text fits is = equal_decides input given s ready (part.Header key) text fits is
-
-  begins_test : (p : Part) (text : List ℕ) → FitsPart IsText p → IsText text →
-      Decides input (begins_code p text) s (test_begins p text input.given)
-  unfolding begins_code
-  begins_test part.Value text fits is = cond_both (is_short text) (value_test_code text jumps.Less)
-      (text_test_code part.Value text jumps.GreaterOrEqual 2)
-      (λ code. Decides input code s (test_begins part.Value text input.given))
-      (λ short. value_begins_decides input given s ready text is (short_some text short))
-      (λ long. begin_decides input given s ready part.Value text fits is)
-  begins_test part.Key text fits is = begin_decides input given s ready part.Key text fits is
-  begins_test (part.Header key) text fits is = begin_decides input given s ready (part.Header key) text fits is
 
 -- ---- numbers of 64 bits
 

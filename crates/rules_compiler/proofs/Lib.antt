@@ -19,6 +19,7 @@ pub mod Occurrences
 pub mod SearchEffects
 pub mod TermEffects
 pub mod ValueEffects
+pub mod TextEffects
 pub mod Effects
 pub mod Emissions
 pub mod ActionEnds

@@ -1,4 +1,5 @@
 -- The flow of each test and condition.
+use Rattle.std.proofs.Common.{subst}
 use Rattle.std.proofs.Common.{◌≡◌, ℕ, ◌+◌, ◌^◌, ◌≤◌, pos, length, true, false, List, [], ◌∷◌, ◌++◌}
 use Rattle.std.proofs.Common.{Option, Some, None, refl, arith, nat_lt, ℤ, ◌⊎◌, ⊎_elim, inl, inr}
 use Rattle.std.proofs.lemmas.Bool.{cond_both}
@@ -29,11 +30,12 @@ use Rattle.rules.specs.declared.rule.Test.TheVariants as test
 use Rattle.rules.specs.Lines.{Formula, Single, Negated, Both, Either}
 use Rattle.rules_compiler.specs.Code.{Code, Plain, Then, Unless}
 use Rattle.rules_compiler.specs.Pieces.{set, copy, change, high_half, low_half, word_count, text_code, part_code}
-use Rattle.rules_compiler.specs.Tests.{name_text, stands, text_test_code, length_test_code, test_of, comparing_code, compare_code, test_code}
+use Rattle.rules_compiler.specs.Tests.{sized, name_text, stands, text_test_code, length_test_code, test_of, comparing_code, compare_code, test_code}
 use Rattle.rules_compiler.specs.Rules.{condition_code}
 use Rattle.rules.specs.Limits.{IsText, FitsPart, FitsTerm, FitsTest, HasFitting}
 use Rattle.rules_compiler.proofs.Ready.{small_immediate}
-use Rattle.rules_compiler.proofs.Parts.{part_flow}
+use Rattle.verifier_spec.proofs.Proper.{with_kind_proper}
+use Rattle.rules_compiler.proofs.Parts.{PartFlow, part_flow}
 use Rattle.rules_compiler.proofs.Texts.{near_stands, LeadsTo, leads_both, shape, words_of, named_rightly, text_leads, text_set}
 use Rattle.rules_compiler.specs.declared.pieces.TheConstants.{NEAR}
 use Rattle.rules_compiler.proofs.Flows.{Flow, Passing, Skips, pass, after, after_proper}
@@ -184,20 +186,20 @@ module _ (answer : Abs) (low high : ℕ) (places : StackSet) (size : ℕ) (few :
   unfolding falls_to helper_among
   equals_lead = record { passed = rw equals_check refl; is = refl }
 
-  pub rest_lead : LeadsTo (copy 8 0 ∷ copy 1 6 ∷ Call (pos 13) ∷ [])
+  pub rest_lead : LeadsTo (copy 8 0 ∷ [])
       (numbered (Abs.Num 0 1) low high Abs.None (words_of places (word_count size)))
-      (numbered (Abs.Num 0 (MAX_VALUE + 2)) low high bit (words_of places (word_count size)))
+      (numbered (Abs.Num 0 1) low high bit (words_of places (word_count size)))
   unfolding failed_check falls_to helper_among
   rest_lead = record { passed = refl; is = refl }
 
   pub stands_lead : LeadsTo (stands size) (numbered answer low high Abs.None (words_of places (word_count size)))
-      (numbered (Abs.Num 0 (MAX_VALUE + 2)) low high bit (words_of places (word_count size)))
-  stands_lead = leads_both (name_text size) (Call (pos 16) ∷ copy 8 0 ∷ copy 1 6 ∷ Call (pos 13) ∷ [])
+      (numbered (Abs.Num 0 1) low high bit (words_of places (word_count size)))
+  stands_lead = leads_both (name_text size) (Call (pos 16) ∷ copy 8 0 ∷ [])
       (numbered answer low high Abs.None (words_of places (word_count size))) beside
-      (numbered (Abs.Num 0 (MAX_VALUE + 2)) low high bit (words_of places (word_count size))) names_lead
-      (leads_both (Call (pos 16) ∷ []) (copy 8 0 ∷ copy 1 6 ∷ Call (pos 13) ∷ []) beside
+      (numbered (Abs.Num 0 1) low high bit (words_of places (word_count size))) names_lead
+      (leads_both (Call (pos 16) ∷ []) (copy 8 0 ∷ []) beside
       (numbered (Abs.Num 0 1) low high Abs.None (words_of places (word_count size)))
-      (numbered (Abs.Num 0 (MAX_VALUE + 2)) low high bit (words_of places (word_count size))) equals_lead rest_lead)
+      (numbered (Abs.Num 0 1) low high bit (words_of places (word_count size))) equals_lead rest_lead)
 
 -- r0 has what the helper says of a length, and r8 whether the part begins with a text
 abbrev pub asked : Abstract
@@ -223,25 +225,72 @@ asking_flow how number = (
   record { passed = refl; within = loosely _ decided refl refl refl refl },
 )
 
-pub asked_flow : (p : Part) (text : List ℕ) → FitsPart IsText p → IsText text →
-    Passing (part_code p ++ (text_code NEAR text ++ stands (length text))) settled asked
-unfolding each_below
-asked_flow p text fits is =
-    let f = part_flow p fits in
+-- a part's number in r6, and in r8 whether the part begins with a text
+stands_leads : (p : Part) (text : List ℕ) (is : IsText text) (f : PartFlow p) →
+    LeadsTo (part_code p ++ (text_code NEAR text ++ stands (length text))) settled
+    (numbered (Abs.Num 0 1) f.low f.high bit (words_of f.places (word_count (length text))))
+stands_leads p text is f =
     let before = numbered f.answer f.low f.high Abs.None f.places in
     let held = numbered f.answer f.low f.high Abs.None (words_of f.places (word_count (length text))) in
-    let behind = numbered (Abs.Num 0 (MAX_VALUE + 2)) f.low f.high bit (words_of f.places (word_count (length text))) in
-    passing_from (part_code p ++ (text_code NEAR text ++ stands (length text))) settled behind asked
-    (leads_both (part_code p) (text_code NEAR text ++ stands (length text)) settled before behind f.leads
+    let behind = numbered (Abs.Num 0 1) f.low f.high bit (words_of f.places (word_count (length text))) in
+    leads_both (part_code p) (text_code NEAR text ++ stands (length text)) settled before behind f.leads
     (leads_both (text_code NEAR text) (stands (length text)) before held behind
     (text_leads near_stands f.answer Abs.None Abs.None Abs.None Abs.None Abs.None (Abs.Num f.low f.high) Abs.None text is.few f.places)
-    (stands_lead f.answer f.low f.high f.places (length text) is.few)))
+    (stands_lead f.answer f.low f.high f.places (length text) is.few))
+
+sized_lead : (low high : ℕ) (places : StackSet) → LeadsTo sized (numbered (Abs.Num 0 1) low high (Abs.Num 1 1) places)
+    (numbered (Abs.Num 0 (MAX_VALUE + 2)) low high (Abs.Num 1 1) places)
+unfolding failed_check falls_to helper_among
+sized_lead low high places = record { passed = refl; is = refl }
+
+sized_passing : (low high : ℕ) (places : StackSet) → Passing sized (numbered (Abs.Num 0 1) low high (Abs.Num 1 1) places) asked
+unfolding each_below
+sized_passing low high places =
+    let behind = numbered (Abs.Num 0 (MAX_VALUE + 2)) low high (Abs.Num 1 1) places in
+    passing_from sized (numbered (Abs.Num 0 1) low high (Abs.Num 1 1) places) behind asked (sized_lead low high places)
     (loosely behind asked refl refl refl refl)
+
+asked_proper : is_proper asked ≡ true
+unfolding is_proper
+asked_proper = refl
+
+settled_is_proper : is_proper settled ≡ true
+unfolding is_proper
+settled_is_proper = refl
+
+begun_flow : (low high : ℕ) (places : StackSet) (rest : Code) →
+    is_proper (numbered (Abs.Num 0 1) low high bit places) ≡ true →
+    Flow rest (numbered (Abs.Num 0 1) low high (Abs.Num 1 1) places) decided →
+    Flow (Unless jumps.Equal 8 (Immediate (pos 0)) rest) (numbered (Abs.Num 0 1) low high bit places) decided
+unfolding failed_check falls_to jumps_to each_below
+begun_flow low high places rest proper f = (
+  numbered (Abs.Num 0 1) low high (Abs.Num 1 1) places,
+  record {
+    checked = refl;
+    proper = with_kind_proper (numbered (Abs.Num 0 1) low high bit places) 8 (Abs.Num 1 1) proper refl;
+    falls = within_refl (numbered (Abs.Num 0 1) low high (Abs.Num 1 1) places);
+    jumps = loosely (numbered (Abs.Num 0 1) low high (Abs.Num 0 0) places) decided refl refl refl refl;
+  },
+  f,
+)
 
 pub text_test_flow : (p : Part) (text : List ℕ) (how : Jumps) (number : ℕ) → FitsPart IsText p → IsText text →
     Flow (text_test_code p text how number) settled decided
-unfolding text_test_code is_proper
-text_test_flow p text how number fits is = (asked, refl, asked_flow p text fits is, asking_flow how number)
+unfolding text_test_code
+text_test_flow p text how number fits is =
+    let f = part_flow p fits in
+    let places = words_of f.places (word_count (length text)) in
+    let behind = numbered (Abs.Num 0 1) f.low f.high bit (words_of f.places (word_count (length text))) in
+    let list = part_code p ++ (text_code NEAR text ++ stands (length text)) in
+    let leads = stands_leads p text is f in
+    let proper = subst (λ (d : Abstract). is_proper d ≡ true) leads.is (after_proper list settled leads.passed settled_is_proper) in (
+      behind,
+      proper,
+      passing_from list settled behind behind leads (within_refl behind),
+      begun_flow f.low f.high places
+          (Then (Plain sized) (Unless how 0 (Immediate (pos number)) (Plain (set 8 (pos 0) ∷ [])))) proper
+          (asked, asked_proper, sized_passing f.low f.high places, asking_flow how number),
+    )
 
 -- a short text of the value
 short_flow : (text : List ℕ) (how : Jumps) → ((byte : ℕ) (rest : List ℕ) → length rest ≤ 255 →

@@ -122,18 +122,15 @@ stands_spelt size few = (
         spelt_near 3 refl,
         (
           spelt_set 4 refl (pos size) (fits_imm size (omega arith)),
-          (
-            spelt_call 16 (omega arith),
-            (
-              spelt_copy 8 refl 0 refl,
-              (spelt_copy 1 refl 6 refl, (spelt_call 13 (omega arith), tt)),
-            ),
-          ),
+          (spelt_call 16 (omega arith), (spelt_copy 8 refl 0 refl, tt)),
         ),
       ),
     ),
   ),
 )
+
+pub sized_spelt : AreSpelt sized
+sized_spelt = (spelt_copy 1 refl 6 refl, (spelt_call 13 (omega arith), tt))
 
 pub text_test_spells : (p : Part) (text : List ℕ) (how : Jumps) (n : ℕ) → FitsPart IsText p → IsText text → n < 2 ^ 31 →
     Spells (text_test_code p text how n)
@@ -142,7 +139,8 @@ text_test_spells p text how n fits is small = spells_then
     (spells_plain (part_code p ++ (text_code NEAR text ++ stands (length text)))
     (part_spelt p (text_code NEAR text ++ stands (length text)) fits
     (text_spelt near_stands text (stands (length text)) is (stands_spelt (length text) is.few))))
-    (spells_unless how 0 (pos n) refl (fits_imm n small) (spells_plain (set 8 (pos 0) ∷ []) (set_zero 8 refl, tt)))
+    (spells_unless jumps.Equal 8 (pos 0) refl fits_zero (spells_then (spells_plain sized sized_spelt)
+    (spells_unless how 0 (pos n) refl (fits_imm n small) (spells_plain (set 8 (pos 0) ∷ []) (set_zero 8 refl, tt)))))
 
 pub look_spelt : (size place : ℕ) → size ≤ 255 → place ≤ 65536 → AreSpelt (look size place)
 look_spelt size place few low = (
@@ -155,9 +153,6 @@ look_spelt size place few low = (
     ),
   ),
 )
-
-pub sized_spelt : AreSpelt sized
-sized_spelt = (spelt_copy 1 refl 6 refl, (spelt_call 13 (omega arith), tt))
 
 pub mark_spells : Spells mark
 mark_spells = spells_plain (set 8 (pos 1) ∷ []) (set_one 8 refl, tt)

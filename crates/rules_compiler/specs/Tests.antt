@@ -29,14 +29,19 @@ length_test_code p number = Then (Plain (part_code p ++ measure))
 abbrev pub name_text : ℕ → List Instruction
 name_text size = copy 1 PART ∷ set 2 (pos 0) ∷ copy 3 FRAME ∷ change Add 3 NEAR ∷ set 4 (pos size) ∷ []
 
--- r8 gets whether the part begins with the text, and r0 what the helper says of the part's length
+-- r8 gets whether the part begins with the text
 abbrev pub stands : ℕ → List Instruction
-stands size = name_text size ++ (Call (pos 16) ∷ copy TRUTH ANSWER ∷ copy 1 PART ∷ Call (pos 13) ∷ [])
+stands size = name_text size ++ (Call (pos 16) ∷ copy TRUTH ANSWER ∷ [])
 
--- the part begins with a text, and what the helper says of its length passes a test
+-- r0 gets the part's length plus 2, or 1 of a null part, or 0 where there is none
+abbrev pub sized : List Instruction
+sized = copy 1 PART ∷ Call (pos 13) ∷ []
+
+-- the part begins with a text, and what the helper says of its length passes a test; that is asked where it begins so
 unfoldable pub text_test_code : Part → List ℕ → Jumps → ℕ → Code
 text_test_code p text how number = Then (Plain (part_code p ++ (text_code NEAR text ++ stands (length text))))
-    (Unless how ANSWER (Immediate (pos number)) (Plain (set TRUTH (pos 0) ∷ [])))
+    (Unless jumps.Equal TRUTH (Immediate (pos 0)) (Then (Plain sized)
+    (Unless how ANSWER (Immediate (pos number)) (Plain (set TRUTH (pos 0) ∷ [])))))
 
 -- ---- short texts of the value
 
@@ -76,10 +81,6 @@ begins_code p text = text_test_code p text jumps.GreaterOrEqual 2
 abbrev pub look : (size place : ℕ) → List Instruction
 look size place = copy 1 PART ∷ set 2 (pos place) ∷ copy 3 FRAME ∷ change Add 3 NEAR ∷ set 4 (pos size)
     ∷ Call (pos 15) ∷ []
-
--- r0 gets the part's length plus 2
-abbrev pub sized : List Instruction
-sized = copy 1 PART ∷ Call (pos 13) ∷ []
 
 -- r8 gets 1 where something was found
 abbrev pub mark : Code

@@ -32,8 +32,8 @@ fn put_length_test(code: &mut Vec<Instruction>, part: &Part, number: i32) -> Res
     ])
 }
 
-/// Whether a text stands at the part's begin, and what the helper says of the part's length.
-fn stands(length: usize) -> [Instruction; 9]
+/// Whether a text stands at the part's begin.
+fn stands(length: usize) -> [Instruction; 7]
     requires { length ≤ 255 }
     ensures { result ≡ definitions.stands length }
 {
@@ -45,12 +45,11 @@ fn stands(length: usize) -> [Instruction; 9]
         set(4, length as i32),
         Instruction::Call(16),
         copy(TRUTH, ANSWER),
-        copy(1, PART),
-        Instruction::Call(13),
     ]
 }
 
-/// Whether a part begins with a text, and what the helper says of its length passes a test.
+/// Whether a part begins with a text, and what the helper says of its length passes a test. It is asked for the length
+/// where the part begins so.
 #[tactic(auto, unfolding(crate::specs::Tests::text_test_code))]
 fn put_text_test(
     code: &mut Vec<Instruction>,
@@ -67,7 +66,13 @@ fn put_text_test(
     put_part(code, part)?;
     put_text(code, NEAR, &text.bytes)?;
     code.extend_from_slice(&stands(text.bytes.len()))?;
-    code.extend_from_slice(&[skip_if(how, ANSWER, number as i32, 1), set(TRUTH, 0)])
+    code.extend_from_slice(&[
+        skip_if(machine_spec::Test::Equal, TRUTH, 0, 4),
+        copy(1, PART),
+        Instruction::Call(13),
+        skip_if(how, ANSWER, number as i32, 1),
+        set(TRUTH, 0),
+    ])
 }
 
 /// Whether a part is a text.
