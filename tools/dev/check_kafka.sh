@@ -5,7 +5,7 @@
 # those of lines.py, one run of the group test of the member in Python and RUNS runs (2) of that in C, and the tables of
 # rates. With 50 runs it takes some two hours, most of them waiting. All it needs is of Debian 12:
 #
-#	apt-get install make gcc pkg-config librdkafka-dev libssl-dev golang-go golang-github-shopify-sarama-dev \
+#	apt-get install make gcc libc6-dev pkg-config librdkafka-dev libssl-dev golang-go golang-github-shopify-sarama-dev \
 #	    golang-github-klauspost-compress-dev python3-kafka python3-confluent-kafka python3-snappy python3-lz4 \
 #	    python3-zstandard kcat zstd lz4
 set -eu
