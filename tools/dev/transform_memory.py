@@ -5,10 +5,10 @@ Not part of the build:
 
     tools/dev/transform_memory.py KLOG
 
-KLOG is a built program. Batches of 10,000 records are read four times each, by a program that emits nothing, and by one
-that emits sixteen times 512 bytes of key and 512 of value from its stack, to 64 OUTs in turn. Batches of fewer records are
-read by one of helper table 3, which emits each value sixteen times with a byte more. A row has the most resident memory of
-the process in MB, without the 4 MiB that each OUT's batch has taken.
+KLOG is a built program. Batches are read some times each, by a program that emits nothing, and by programs that emit
+sixteen times, to 64 OUTs in turn: 512 bytes of key and 512 of value from the stack; the same with sixteen added headers of
+767 bytes; the value with 512 bytes more, without and with an added header; a header's value, with an added header. A row has
+the most resident memory of the process in MB, without the 4 MiB that each OUT's batch has taken.
 """
 import re
 import subprocess
@@ -25,16 +25,22 @@ RECORDS, OUTS, MIB = 10_000, 64, 1 << 20
 NOTHING = "mov64 r0, 0\nexit\n"
 
 
-def sixteen(call):
-    """The text of a program that emits sixteen rows by a call."""
-    lines = [f"st64 [r10-{place}], 7" for place in range(8, 520, 8)] + ["call 7", "mov64 r6, r0", "lsh64 r6, 4"]
+def sixteen(call, first=()):
+    """The text of a program that emits sixteen rows by a call, after some other lines."""
+    lines = [f"st64 [r10-{place}], 7" for place in range(8, 520, 8)] + ["call 7", "mov64 r6, r0", "lsh64 r6, 4", *first]
     for number in range(16):
         lines += ["mov64 r1, r6", f"add64 r1, {number}", f"and64 r1, {OUTS - 1}", *call]
     return "\n".join([*lines, "mov64 r0, 0", "exit", ""])
 
 
-FROM_STACK = sixteen(["mov64 r2, r10", "add64 r2, -512", "mov64 r3, 512", "mov64 r4, r2", "mov64 r5, 512", "call 5"])
-CHANGED = sixteen(["mov64 r2, 0", "mov64 r3, 0", "mov64 r4, r10", "add64 r4, -1", "mov64 r5, 1", "call 21"])
+def added(length):
+    """The lines of a call that adds a header with a value of so many bytes."""
+    return ["mov64 r1, r10", "add64 r1, -512", "mov64 r2, 255", "mov64 r3, r1", f"mov64 r4, {length}", "call 22"]
+
+
+EMIT = ["mov64 r2, r10", "add64 r2, -512", "mov64 r3, 512", "mov64 r4, r2", "mov64 r5, 512", "call 5"]
+CHANGE = ["mov64 r2, 0", "mov64 r3, 0", "mov64 r4, r10", "add64 r4, -512", "mov64 r5, 512", "call 21"]
+HEADER = ["mov64 r2, 3", "mov64 r3, 0", "mov64 r4, 4096", "call 20"]
 
 
 def batch(value, headers=(), records=RECORDS):
@@ -72,16 +78,22 @@ def main():
         sys.exit(__doc__)
     klog = sys.argv[1]
     shapes = [("small records", batch(0)), ("values", batch(400)), ("16 headers a record", batch(0, [22] * 16))]
-    long_shapes = [(f"values of {value} bytes", batch(value, (), count)) for value, count in ((16_000, 256), (100_000, 40), (1_000_000, 4))]
-    programs = [("nothing", NOTHING, 1, 0, shapes), ("sixteen", FROM_STACK, 1, OUTS, shapes),
-                ("sixteen of table 3", CHANGED, 3, OUTS, long_shapes)]
+    long_shapes = [(f"values of {value} bytes", batch(value, (), count)) for value, count in ((400, 10_000), (16_000, 256), (1_000_000, 4))]
+    long_shapes += [("15 headers a record", batch(0, [22] * 15)), ("headers of 4,096 bytes", batch(0, [4096], 1_000))]
+    few_shapes = [("small records", batch(0, (), 2_048)), ("values", batch(2_000, (), 2_048))]
+    programs = [("nothing", NOTHING, 1, 0, 4, shapes),
+                ("from its stack", sixteen(EMIT), 1, OUTS, 4, shapes),
+                ("the same with added headers", sixteen(EMIT, added(512) * 16), 3, OUTS, 1, few_shapes),
+                ("a changed value", sixteen(CHANGE), 3, OUTS, 4, long_shapes),
+                ("the same with an added header", sixteen(CHANGE, added(512)), 3, OUTS, 4, long_shapes),
+                ("a header's value, with an added header", sixteen(HEADER, added(1)), 3, OUTS, 4, long_shapes[-1:])]
     with tempfile.TemporaryDirectory() as folder:
         outs = [f"{folder}/{number}.out" for number in range(OUTS)]
-        for name, text, table, filled, given in programs:
+        for name, text, table, filled, times, given in programs:
             program = program_of(klog, folder, text, table)
             for shape, data in given:
                 with open(f"{folder}/in", "wb") as file:
-                    file.write(data * 4)
+                    file.write(data * times)
                 most = peak([klog, "transform", program, f"{folder}/in", *outs])
                 print(f"{name}, a batch of {len(data) / 1e6:.1f} MB, {shape}: {most - filled * 4 * MIB / 1e6:.1f} MB", flush=True)
 

@@ -4,11 +4,12 @@ ghost use Rattle.machine_spec.specs.Machine.{with_emission, header_refusal, head
 ghost use Rattle.helpers.specs.Emitted.{emission_in, yield_in};
 ghost use Rattle.helpers.specs.Pieces.{piece_bytes, IsPiece};
 
+use crate::drafts::{Draft, DraftHeaders};
 use crate::emitted::Emitted;
 use crate::emitter::Emitter;
 use crate::pieces::Piece;
 use kafka_record::{RecordRef, is_text, share_bytes};
-use machine_spec::{Emission, MAX_EMISSIONS};
+use machine_spec::MAX_EMISSIONS;
 use std::alloc::{AllocError, Global};
 use wire_spec::{Header, Headers, MAX_HEADER_KEY, MAX_HEADER_VALUE, MAX_HEADERS};
 
@@ -29,6 +30,7 @@ fn add_shared(list: &mut Vec<Header>, more: &[Header]) -> Result<(), AllocError>
 fn joined(mut headers: Headers, more: &Headers) -> Result<Headers, AllocError>
     ensures { IfOk result (λ all. all ≡ headers ++ more.now) }
 {
+    headers.list.reserve_exact(more.list.len())?;
     add_shared(&mut headers.list, &more.list)?;
     Ok(headers)
 }
@@ -48,18 +50,18 @@ impl Emitter {
             ≡ with_emission (yield_in given.now self.old) (emission_in given.now item)) }
         ensures err { OnErr result (self.new ≡ self.old) }
     {
-        let Emission {
+        let Draft {
             out,
             key,
             value,
             headers,
-        } = item.into_emission(alloc, given)?;
-        let headers = joined(headers, &self.added)?;
-        self.emitted.list.push(Emitted::Made(Emission {
+        } = item.into_draft();
+        let headers = joined(headers.into_headers(alloc, given)?, &self.added)?;
+        self.emitted.list.push(Emitted::Made(Draft {
             out,
             key,
             value,
-            headers,
+            headers: DraftHeaders::Listed(headers),
         }))?;
         Ok(0)
     }

@@ -1,20 +1,19 @@
 //! Emissions of the record with another value: a piece of one of its parts, or its value with a change.
-ghost use Rattle.std.specs.Prelude.{◌≡◌, ◌++◌, ◌∷◌, ◌+◌, ◌<◌, ◌≤◌, ◌-◌, [], length, take, drop, IfOk, OnOk, OnErr, Some};
+ghost use Rattle.std.specs.Prelude.{◌≡◌, ◌<◌, length, IfOk, OnOk, OnErr, Some};
 ghost use Rattle.machine_spec.specs.Machine.{bytes_of, with_emission, code_unless, emitted_unless, cut_refusal, cut_record, changed_bytes, change_refusal, changed_record};
-ghost use Rattle.wire_spec.specs.declared.limits.TheConstants.{MAX_VALUE};
 ghost use Rattle.machine_spec.specs.Parts.{part_bytes};
 ghost use Rattle.helpers.specs.Emitted.{yield_in};
 ghost use Rattle.helpers.specs.Pieces.{piece_bytes, IsPiece};
 
-use crate::emitted::{Emitted, Excerpt, share_some};
+use crate::drafts::{Draft, DraftHeaders, DraftKey, DraftValue, Edit};
+use crate::emitted::Emitted;
 use crate::emitter::{Emitter, code_of};
 use crate::parts::{text, text_length};
 use crate::pieces::Piece;
 use crate::room::has_part;
 use crate::slices::PartSlice;
-use bytes::Bytes;
 use kafka_record::RecordRef;
-use machine_spec::{Emission, MAX_EMISSIONS, Place};
+use machine_spec::{MAX_EMISSIONS, Place};
 use std::alloc::{AllocError, Global};
 use wire_spec::MAX_VALUE;
 
@@ -47,58 +46,44 @@ fn refusal_of(value: &[u8], place: u64, count: u64, others: &[u8]) -> u64
     }
 }
 
-/// Some bytes, of which those between two places are replaced by others. It fails only where memory runs out.
-fn changed(
-    alloc: Global,
-    bytes: &[u8],
-    start: usize,
-    end: usize,
-    others: &[u8],
-) -> Result<Bytes, AllocError>
-    requires order { start ≤ end }
-    requires within { end ≤ length bytes.now }
-    requires few { length bytes.now - (end - start) + length others.now ≤ MAX_VALUE }
-    ensures { IfOk result (λ changed. changed ≡ take start bytes.now ++ others.now ++ drop end bytes.now) }
-{
-    let mut list = Vec::with_capacity(alloc, bytes.len() - (end - start) + others.len())?;
-    list.extend_from_slice(&bytes[..start])?;
-    list.extend_from_slice(others)?;
-    list.extend_from_slice(&bytes[end..])?;
-    Ok(Bytes::from_vec(list)?)
-}
-
 impl Emitter {
-    /// Adds the record with another value and returns 0. On an error none was added.
+    /// Adds the record with a change of its value and returns 0. On an error none was added.
     #[inline(never)]
     fn add_changed(
         &mut self,
         alloc: Global,
         given: &RecordRef,
         out: usize,
-        value: Bytes,
+        change: ValueChange,
     ) -> Result<u64, AllocError>
-        requires { length self.old.list < MAX_EMISSIONS }
+        requires room { length self.old.list < MAX_EMISSIONS }
+        requires bytes { IsPiece given.now change.bytes }
         ensures answer { IfOk result (λ code. code ≡ 0) }
         ensures emitted { OnOk result (yield_in given.now self.new
             ≡ with_emission (yield_in given.now self.old) (record {
               out = out;
               key = given.now.key;
-              value = Some value;
+              value = Some (changed_bytes (bytes_of given.now.value) change.entry.place change.entry.count
+                  (piece_bytes given.now change.entry.bytes));
               headers = given.now.headers;
             })) }
         ensures err { OnErr result (self.new ≡ self.old) }
     {
         self.begin()?;
-        let key = given.share_key()?;
-        let headers = share_some(alloc, &given.headers())?;
+        let bytes = change.bytes.bytes(alloc, given)?;
+        let edit = Edit {
+            place: change.place,
+            count: change.count,
+            bytes,
+        };
         self.add(
             alloc,
             given,
-            Emitted::Made(Emission {
+            Emitted::Made(Draft {
                 out,
-                key,
-                value: Some(value),
-                headers,
+                key: DraftKey::Own,
+                value: DraftValue::Edited(edit),
+                headers: DraftHeaders::Own,
             }),
         )
     }
@@ -131,11 +116,7 @@ impl Emitter {
             return Ok(code);
         }
         if slice.is_in(given) {
-            let excerpt = Excerpt {
-                out: out as usize,
-                slice: Some(*slice),
-            };
-            self.add_excerpt(alloc, given, excerpt)
+            self.add_excerpt(alloc, given, out, Some(*slice))
         } else {
             Ok(LACKS_BYTES)
         }
@@ -145,7 +126,6 @@ impl Emitter {
     /// of those of `emit_record` that holds; else 4 where the value lacks one of the bytes that are replaced;
     /// else 5 where it gets longer than 1,048,576 bytes; else 0, and it is emitted. It fails only where memory
     /// runs out; nothing is emitted then.
-    #[tactic(auto, using(crate::proofs::ValueChanges::change_room))]
     pub fn emit_changed(
         &mut self,
         alloc: Global,
@@ -178,8 +158,6 @@ impl Emitter {
         if refusal != 0 {
             return Ok(refusal);
         }
-        let start = change.place as usize;
-        let value = changed(alloc, value, start, start + change.count as usize, others)?;
-        self.add_changed(alloc, given, out as usize, value)
+        self.add_changed(alloc, given, out as usize, change)
     }
 }

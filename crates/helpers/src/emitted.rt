@@ -1,22 +1,14 @@
 //! What a program emitted for a record: a mark where the record has all parts of it.
 ghost use Rattle.std.specs.Prelude.{◌≡◌, ◌++◌, [], IfOk, OnOk};
-ghost use Rattle.helpers.specs.Emitted.{emission_in, emissions_in};
+ghost use Rattle.wire_spec.specs.declared.record.Record.{Record};
+ghost use Rattle.helpers.specs.Emitted.{emission_in, emissions_in, emission_of};
 
-use crate::slices::{PartSlice, share_value};
-use kafka_record::{HeadersRef, RecordRef};
+use crate::drafts::Draft;
+use crate::excerpts::Excerpt;
+use kafka_record::RecordRef;
 use machine_spec::{Emission, Emissions};
 use std::alloc::{AllocError, Global};
 use std::marker::Model;
-use wire_spec::Headers;
-
-/// An emission whose parts are the record's: its key, its headers, and as value its own or a slice of one of its parts.
-#[derive(Clone, Copy, Debug)]
-pub struct Excerpt {
-    /// The output partition.
-    pub out: usize,
-    /// `None` for the record as it is.
-    pub slice: Option<PartSlice>,
-}
 
 /// What a program emitted for a record.
 #[derive(Drop)]
@@ -24,7 +16,7 @@ pub enum Emitted {
     /// An excerpt of the record.
     Cut(Excerpt),
     /// A record that the program made.
-    Made(Emission),
+    Made(Draft),
 }
 
 /// What a program emitted for a record, in order, at most 16 records. A clause sees it as the list of it.
@@ -57,39 +49,24 @@ impl Model for EmittedList {
     ghost invariant = { λ e. length e.list.items ≤ MAX_EMISSIONS };
 }
 
-/// Other owners of the headers' parts, in a list of their own. Most records have no headers.
-#[inline(always)]
-pub(crate) fn share_some(alloc: Global, headers: &HeadersRef) -> Result<Headers, AllocError>
-    ensures { IfOk result (λ shared. shared ≡ headers.now) }
-{
-    if headers.is_empty() {
-        return Ok(Headers {
-            list: Vec::new(alloc),
-        });
-    }
-    headers.to_headers(alloc)
-}
-
 impl Emitted {
-    /// The emission of it for this record: another owner of the record's parts, where it has those. It fails only
-    /// where memory runs out.
+    /// The same as a draft.
     #[inline(always)]
-    pub(crate) fn into_emission(
-        self,
-        alloc: Global,
-        given: &RecordRef,
-    ) -> Result<Emission, AllocError>
-        ensures { IfOk result (λ emission. emission ≡ emission_in given.now self) }
+    pub(crate) fn into_draft(self) -> Draft
+        ensures { (given : Record) → emission_of given result ≡ emission_in given self }
     {
         match self {
-            Emitted::Cut(excerpt) => Ok(Emission {
-                out: excerpt.out,
-                key: given.share_key()?,
-                value: share_value(alloc, given, &excerpt.slice)?,
-                headers: share_some(alloc, &given.headers())?,
-            }),
-            Emitted::Made(emission) => Ok(emission),
+            Emitted::Cut(excerpt) => Draft::cut(excerpt.out(), excerpt.slice()),
+            Emitted::Made(draft) => draft,
         }
+    }
+
+    /// The emission of it for this record, which owns its parts. It fails only where memory runs out.
+    #[inline(always)]
+    fn into_emission(self, alloc: Global, given: &RecordRef) -> Result<Emission, AllocError>
+        ensures { IfOk result (λ emission. emission ≡ emission_in given.now self) }
+    {
+        self.into_draft().into_emission(alloc, given)
     }
 }
 

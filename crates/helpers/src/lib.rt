@@ -4,8 +4,10 @@
 
 mod added;
 mod changes;
+mod drafts;
 mod emitted;
 mod emitter;
+mod excerpts;
 mod headers;
 mod parts;
 mod pieces;
@@ -14,8 +16,10 @@ mod room;
 mod slices;
 
 pub use changes::ValueChange;
-pub use emitted::{Emitted, EmittedList, Excerpt};
+pub use drafts::{Draft, DraftHeaders, DraftKey, DraftValue, Edit};
+pub use emitted::{Emitted, EmittedList};
 pub use emitter::Emitter;
+pub use excerpts::{Excerpt, Source};
 pub use headers::{HeaderPart, header_count, header_key, header_value};
 pub use kafka_record::{NullableBytes, RecordRef};
 pub use machine_spec::{Emission, Emissions, Helper, Outcome, Part, Place};

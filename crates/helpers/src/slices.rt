@@ -4,6 +4,7 @@ ghost use Rattle.machine_spec.specs.Machine.{has_part};
 ghost use Rattle.machine_spec.specs.Parts.{part_bytes};
 ghost use Rattle.helpers.specs.Emitted.{bytes_in, value_in};
 
+use crate::parts::text;
 use crate::room::has_part;
 use bytes::Bytes;
 use kafka_record::RecordRef;
@@ -17,6 +18,17 @@ pub struct PartSlice {
     pub part: Part,
     pub place: u64,
     pub count: u64,
+}
+
+/// The bytes of a part. Most slices are of the value, so that this finds it without a call.
+#[inline(always)]
+fn bytes_of_part<'a>(given: &RecordRef<'a>, part: Part) -> &'a [u8]
+    ensures { result.now ≡ part_bytes given.now part }
+{
+    match part {
+        Part::Value => text(&given.value()),
+        other => part_bytes(given, other),
+    }
 }
 
 /// Another owner of the bytes between two places of a part. Those of the key and the value share the record's
@@ -43,10 +55,11 @@ fn share_range(
 
 impl PartSlice {
     /// Whether the part has all of these bytes.
+    #[inline(always)]
     pub fn is_in(&self, given: &RecordRef) -> bool
         ensures { result ≡ has_part (part_bytes given.now self.now.part) self.now.place self.now.count }
     {
-        has_part(part_bytes(given, self.part), self.place, self.count)
+        has_part(bytes_of_part(given, self.part), self.place, self.count)
     }
 
     /// The places in a part of some length between which the bytes are that it has of these.
@@ -63,10 +76,11 @@ impl PartSlice {
     }
 
     /// The bytes that the part has of these, where they are.
+    #[inline(always)]
     pub fn bytes<'a>(&self, given: &RecordRef<'a>) -> &'a [u8]
         ensures { result.now ≡ bytes_in given.now self.now }
     {
-        let whole = part_bytes(given, self.part);
+        let whole = bytes_of_part(given, self.part);
         let (start, end) = self.range(whole.len());
         &whole[start..end]
     }

@@ -11,7 +11,7 @@ use Rattle.machine_spec.specs.declared.{outcome.Outcome.Outcome, outcome.Place.P
 use Rattle.machine_spec.specs.{Image.Program, Meaning.IsPlace}
 use Rattle.helpers.specs.declared.emitted.Emitted.{Emitted}
 use Rattle.helpers.specs.declared.emitted.Emitted.TheVariants.{Cut, Made}
-use Rattle.helpers.specs.declared.emitted.Excerpt.{Excerpt}
+use Rattle.helpers.specs.declared.excerpts.Excerpt.{Excerpt}
 use Rattle.exec.specs.{declared.ending.Ending.Ending, Abreast.AreGiven, Runs.no_record}
 use Rattle.exec.specs.declared.ending.Ending.TheVariants.{Kept, Rejected}
 use Rattle.exec.specs.Endings.{Ended, kept_alone, outcome_in, outcomes_of}

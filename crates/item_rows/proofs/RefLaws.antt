@@ -1,12 +1,12 @@
 -- Rows whose parts stay where they are: one more of them.
 use Rattle.std.proofs.Common.{◌≡◌, ℕ, zero, suc, ◌+◌, ◌<◌, ◌≤◌, List, [], ◌∷◌, ◌++◌, length, get_or}
-use Rattle.std.proofs.Common.{slice_get, Option, Some, take, refl, sym, ap, subst, ◌∙◌, arith}
+use Rattle.std.proofs.Common.{slice_get, Some, take, refl, sym, ap, subst, ◌∙◌, arith}
 use Rattle.std.proofs.lemmas.Option.{get_or_from_slice_get}
 use Rattle.std.proofs.lemmas.List.{map-append, get_or_append_left, get_or-append-add, length-map, take_more}
 use Rattle.wire_spec.specs.declared.record.Record.{Record}
 use Rattle.machine_spec.specs.declared.outcome.Emission.{Emission}
 use Rattle.log_spec.specs.declared.row.Row.{Row}
-use Rattle.helpers.specs.declared.slices.PartSlice.{PartSlice}
+use Rattle.helpers.specs.declared.excerpts.Excerpt.{Excerpt}
 use Rattle.item_rows.specs.declared.refs.{Slot.Slot, SlotParts.SlotParts}
 use Rattle.item_rows.specs.declared.refs.SlotParts.TheVariants as slot_parts
 use Rattle.item_rows.specs.RowParts.{no_emission, parts_in, IsWithin}
@@ -15,13 +15,13 @@ use Rattle.item_rows.specs.RowRefs.{row_with, row_in, rows_by, AreWithin}
 -- parts stay where one more record is made
 parts_same : (made more : List Emission) (given : Record) (parts : SlotParts) → IsWithin (length made) parts →
     parts_in (made ++ more) given parts ≡ parts_in made given parts
-parts_same made more given (slot_parts.Given slice) within = refl
+parts_same made more given (slot_parts.Given excerpt) within = refl
 parts_same made more given (slot_parts.Made k) within = get_or_append_left made more no_emission k within
 
 -- ---- the numbers of made records
 
 within_more : (count more : ℕ) (parts : SlotParts) → count ≤ more → IsWithin count parts → IsWithin more parts
-within_more count more (slot_parts.Given slice) le within = tt
+within_more count more (slot_parts.Given excerpt) le within = tt
 within_more count more (slot_parts.Made k) le within = omega (arith, le, within)
 
 pub within_at : (count : ℕ) (slots : List Slot) (k : ℕ) (slot : Slot) → AreWithin count slots → k < length slots →
@@ -42,9 +42,9 @@ one_within count more [] slot le all within = (within, tt)
 one_within count more (first ∷ slots) slot le all within =
     (within_more count more first.parts le all.0, one_within count more slots slot le all.1 within)
 
-pub none_made : (count : ℕ) (parts : SlotParts) (slice : Option PartSlice) → parts ≡ slot_parts.Given slice →
+pub none_made : (count : ℕ) (parts : SlotParts) (excerpt : Excerpt) → parts ≡ slot_parts.Given excerpt →
     IsWithin count parts
-none_made count parts slice none = subst (IsWithin count) (sym none) tt
+none_made count parts excerpt none = subst (IsWithin count) (sym none) tt
 
 pub last_made : (count : ℕ) (parts : SlotParts) → parts ≡ slot_parts.Made count → IsWithin (count + 1) parts
 last_made count parts last =

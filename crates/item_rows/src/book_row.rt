@@ -2,7 +2,8 @@
 
 ghost use Rattle.std.specs.Prelude.{◌≡◌, ◌<◌, [], length, get_or, IfOk};
 ghost use Rattle.std.specs.Arc.{arc_value};
-ghost use Rattle.item_rows.specs.RowParts.{excerpt, parts_in, no_emission, IsWithin};
+ghost use Rattle.helpers.specs.Emitted.{excerpt_in};
+ghost use Rattle.item_rows.specs.RowParts.{parts_in, no_emission, IsWithin};
 ghost use Rattle.item_rows.specs.RowRefs.{row_in};
 ghost use Rattle.item_rows.specs.BookRows.{parts_of, AreThere};
 
@@ -11,7 +12,7 @@ use crate::numbers::RowNumbers;
 use crate::refs::{Slot, SlotParts};
 use helpers::share_value;
 use kafka_record::{HeadersRef, NullableBytes, share_bytes, share_headers};
-use log_item::{LoggedBatch, PartSlice};
+use log_item::{Excerpt, LoggedBatch};
 use log_spec::{Row, RowRef};
 use machine_spec::Emission;
 use std::alloc::{AllocError, Global};
@@ -36,11 +37,11 @@ impl Model for Made {
 /// What has a row's parts.
 #[derive(Drop)]
 enum Parts {
-    /// The record of a log's batch with this number, of which a slice of a part is the row's value, if there is one here.
+    /// An excerpt of the record of a log's batch with this number.
     Given {
         logged: LoggedBatch,
         index: usize,
-        slice: Option<PartSlice>,
+        excerpt: Excerpt,
     },
     /// One of the records that a program made, by its number.
     Made {
@@ -70,16 +71,16 @@ impl Model for BookRow {
 }
 
 impl Parts {
-    /// Another owner of a record of a log's batch.
+    /// An excerpt of a record of a log's batch, by another owner of that.
     #[inline(always)]
-    fn of_given(given: &Given, slice: Option<PartSlice>) -> Result<Parts, AllocError>
-        ensures { IfOk result (λ parts. AreThere parts × (parts_of parts ≡ excerpt given.now slice)) }
+    fn of_given(given: &Given, excerpt: Excerpt) -> Result<Parts, AllocError>
+        ensures { IfOk result (λ parts. AreThere parts × (parts_of parts ≡ excerpt_in given.now excerpt)) }
     {
         let logged = given.logged.share()?;
         Ok(Parts::Given {
             logged,
             index: given.index,
-            slice,
+            excerpt,
         })
     }
 
@@ -100,7 +101,7 @@ impl Parts {
         ensures { IfOk result (λ parts. AreThere parts × (parts_of parts ≡ parts_in (arc_value made.now) slot.now.given slot.now.parts)) }
     {
         match slot.parts {
-            SlotParts::Given(slice) => Self::of_given(&slot.given, slice),
+            SlotParts::Given(excerpt) => Self::of_given(&slot.given, excerpt),
             SlotParts::Made(index) => Self::of_made(made, index),
         }
     }
@@ -114,13 +115,13 @@ impl Parts {
             Parts::Given {
                 logged,
                 index,
-                slice,
+                excerpt,
             } => {
                 let logged = logged.share()?;
                 Ok(Parts::Given {
                     logged,
                     index: *index,
-                    slice: *slice,
+                    excerpt: *excerpt,
                 })
             }
             Parts::Made { made, index } => {
@@ -156,7 +157,7 @@ impl BookRow {
         ensures { IfOk result (λ row. row ≡ row_in [] slot.now) }
     {
         let parts = match slot.parts {
-            SlotParts::Given(slice) => Parts::of_given(&slot.given, slice)?,
+            SlotParts::Given(excerpt) => Parts::of_given(&slot.given, excerpt)?,
             SlotParts::Made(_) => unreachable!(),
         };
         Ok(BookRow {
@@ -182,8 +183,8 @@ impl BookRow {
             Parts::Given {
                 logged,
                 index,
-                slice,
-            } => self.numbers.with_excerpt(&logged.record(*index), slice),
+                excerpt,
+            } => self.numbers.with_excerpt(&logged.record(*index), excerpt),
             Parts::Made { made, index } => {
                 let emission = &made.list[*index];
                 let key = NullableBytes::of(&emission.key);
@@ -213,11 +214,11 @@ impl BookRow {
             Parts::Given {
                 logged,
                 index,
-                slice,
+                excerpt,
             } => {
                 let given = logged.record(*index);
                 let headers = given.headers().to_headers(alloc)?;
-                let value = share_value(alloc, &given, slice)?;
+                let value = share_value(alloc, &given, &excerpt.slice())?;
                 Ok(self.numbers.row(given.share_key()?, value, headers))
             }
             Parts::Made { made, index } => {

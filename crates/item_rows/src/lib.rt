@@ -8,6 +8,7 @@ mod book_row;
 mod given;
 mod item;
 mod laws;
+mod made;
 mod numbers;
 mod origin;
 mod outcomes;

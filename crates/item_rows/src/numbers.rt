@@ -5,11 +5,12 @@ ghost use Rattle.machine_spec.specs.declared.limits.TheConstants.{MAX_EMISSIONS}
 ghost use Rattle.machine_spec.specs.declared.outcome.Emission.{Emission};
 ghost use Rattle.machine_spec.specs.Meaning.{IsPlace};
 ghost use Rattle.log_spec.specs.Logs.{row_of};
-ghost use Rattle.item_rows.specs.RowParts.{row_by, whole, excerpt};
+ghost use Rattle.helpers.specs.Emitted.{excerpt_in};
+ghost use Rattle.item_rows.specs.RowParts.{row_by, whole};
 
 use bytes::Bytes;
 use kafka_record::{HeadersRef, NullableBytes, RecordRef};
-use log_item::PartSlice;
+use log_item::Excerpt;
 use log_spec::{Row, RowRef};
 use machine_spec::Place;
 use wire_spec::Headers;
@@ -56,16 +57,12 @@ impl RowNumbers {
         }
     }
 
-    /// The row of these numbers with the parts of a record, of which a slice of a part is the value, if there is one here.
+    /// The row of these numbers with the parts of an excerpt of a record.
     #[inline(always)]
-    pub(crate) fn with_excerpt<'r>(
-        &self,
-        given: &RecordRef<'r>,
-        slice: &Option<PartSlice>,
-    ) -> RowRef<'r>
-        ensures { result ≡ row_by self.now (excerpt given.now slice.now) }
+    pub(crate) fn with_excerpt<'r>(&self, given: &RecordRef<'r>, excerpt: &Excerpt) -> RowRef<'r>
+        ensures { result ≡ row_by self.now (excerpt_in given.now excerpt.now) }
     {
-        match slice {
+        match excerpt.slice() {
             None => self.with_record(given),
             Some(slice) => {
                 let value = NullableBytes::new(Some(slice.bytes(given)));

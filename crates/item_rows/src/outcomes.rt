@@ -41,8 +41,8 @@ fn out_of(emitted: &Emitted) -> usize
     ensures { (given : Record) → (emission_in given emitted.now).out ≡ result }
 {
     match emitted {
-        Emitted::Cut(excerpt) => excerpt.out,
-        Emitted::Made(emission) => emission.out,
+        Emitted::Cut(excerpt) => excerpt.out(),
+        Emitted::Made(draft) => draft.out,
     }
 }
 
@@ -59,11 +59,11 @@ fn push_excerpt<'a>(
     requires few { number < MAX_EMISSIONS }
     ensures { OnOk result (Adds first all.old all.new (λ output here. here ≡ (if (emission_in at.now.given.now (Cut excerpt.now)).out == output then row_of at.now.place.now number (emission_in at.now.given.now (Cut excerpt.now)) ∷ [] else []))) }
 {
-    let out = excerpt.out;
+    let out = excerpt.out();
     if out < first || out - first >= all.len() {
         return Ok(());
     }
-    all[out - first].push_given(at.place, number, at.given, excerpt.slice)
+    all[out - first].push_given(at.place, number, at.given, *excerpt)
 }
 
 /// Adds the row of what a program emitted for a record to its output, where that is one of the outputs from

@@ -1,22 +1,23 @@
 //! Rows whose parts stay where they are.
 
-ghost use Rattle.std.specs.Prelude.{◌≡◌, ◌<◌, ◌++◌, ◌∷◌, [], length, get_or, slice_get, Some, IfOk, OnOk};
+ghost use Rattle.std.specs.Prelude.{◌≡◌, ◌<◌, ◌++◌, ◌∷◌, [], length, slice_get, Some, IfOk, OnOk};
 ghost use Rattle.machine_spec.specs.declared.outcome.Emission.{Emission};
 ghost use Rattle.machine_spec.specs.declared.limits.TheConstants.{MAX_EMISSIONS};
 ghost use Rattle.machine_spec.specs.Meaning.{IsPlace};
-ghost use Rattle.helpers.specs.Emitted.{emission_in};
+ghost use Rattle.helpers.specs.Emitted.{excerpt_in, emission_in, emission_of};
 ghost use Rattle.std.specs.Arc.{arc_value};
 ghost use Rattle.log_spec.specs.Logs.{row_of};
-ghost use Rattle.item_rows.specs.RowParts.{excerpt, no_emission, IsWithin};
+ghost use Rattle.item_rows.specs.RowParts.{IsWithin};
 ghost use Rattle.item_rows.specs.RowRefs.{row_with, row_in, rows_by, AreWithin};
 
 use crate::book_row::{BookRow, Made};
 use crate::given::Given;
+use crate::made::{MadeRecord, emissions};
 use crate::numbers::RowNumbers;
-use kafka_record::{HeadersRef, NullableBytes};
-use log_item::{Emitted, PartSlice};
+use helpers::Draft;
+use log_item::{Emitted, Excerpt};
 use log_spec::RowRef;
-use machine_spec::{Emission, Place};
+use machine_spec::Place;
 use std::alloc::{AllocError, Global};
 use std::marker::Model;
 use std::sync::Arc;
@@ -33,8 +34,8 @@ pub(crate) struct Slot<'a> {
 /// What has the parts of a row.
 #[derive(Clone, Copy)]
 pub(crate) enum SlotParts {
-    /// The given record, of which a slice of a part is the row's value, if there is one here.
-    Given(Option<PartSlice>),
+    /// An excerpt of the given record.
+    Given(Excerpt),
     /// The made record with this number.
     Made(usize),
 }
@@ -54,41 +55,26 @@ fn slot_for<'a>(place: &Place, number: usize, given: &Given<'a>, parts: SlotPart
     }
 }
 
-/// The row of a slot whose parts are a made record's.
+/// The row of a slot. A made record's value that is nowhere in one piece is written to the room.
 #[inline(always)]
-fn made_row<'r>(made: &'r [Emission], slot: &Slot, number: usize) -> RowRef<'r>
-    requires { number < length made.now }
-    ensures { result ≡ row_with slot.now (get_or made.now number no_emission) }
-{
-    let emission = &made[number];
-    let key = NullableBytes::of(&emission.key);
-    let value = NullableBytes::of(&emission.value);
-    slot.numbers
-        .with_parts(key, value, HeadersRef::of(&emission.headers))
-}
-
-/// The row of a slot whose parts are the given record's, of which a slice of a part may be the value.
-#[inline(always)]
-fn given_row<'r>(slot: &'r Slot, slice: &Option<PartSlice>) -> RowRef<'r>
-    ensures { result ≡ row_with slot.now (excerpt slot.now.given slice.now) }
-{
-    slot.numbers.with_excerpt(&slot.given.record(), slice)
-}
-
-/// The row of a slot.
-#[inline(always)]
-fn row_of_slot<'r>(made: &'r [Emission], slot: &'r Slot) -> RowRef<'r>
+fn row_of_slot<'r>(
+    made: &'r [MadeRecord],
+    slot: &'r Slot,
+    room: &'r mut Vec<u8>,
+) -> Result<RowRef<'r>, AllocError>
     requires { IsWithin (length made.now) slot.now.parts }
-    ensures { result ≡ row_in made.now slot.now }
+    ensures { IfOk result (λ row. row ≡ row_in made.now slot.now) }
 {
     match &slot.parts {
-        SlotParts::Given(slice) => given_row(slot, slice),
-        SlotParts::Made(number) => made_row(made, slot, *number),
+        SlotParts::Given(excerpt) => {
+            Ok(slot.numbers.with_excerpt(&slot.given.record(), excerpt))
+        }
+        SlotParts::Made(number) => made[*number].row(&slot.numbers, room),
     }
 }
 
 /// Makes room for the made records of so many rows, where there are none yet.
-fn make_room(made: &mut Vec<Emission>, rows: usize) -> Result<(), AllocError>
+fn make_room(made: &mut Vec<MadeRecord>, rows: usize) -> Result<(), AllocError>
     ensures { made.new.items ≡ made.old.items }
 {
     if made.is_empty() {
@@ -127,7 +113,7 @@ fn book_rows(alloc: Global, slots: &[Slot], made: &Arc<Made>) -> Result<Vec<Book
 pub struct RowRefs<'a> {
     slots: Vec<Slot<'a>>,
     // The records that programs made, in the order of their rows.
-    made: Vec<Emission>,
+    made: Vec<MadeRecord<'a>>,
 }
 
 impl<'a> Model for RowRefs<'a> {
@@ -175,26 +161,26 @@ impl<'a> RowRefs<'a> {
         ensures { OnOk result (self.new ≡ self.old ++ row_of place.now number (emission_in given.now emitted) ∷ []) }
     {
         match emitted {
-            Emitted::Cut(excerpt) => self.push_given(place, number, given, excerpt.slice),
-            Emitted::Made(emission) => self.push_made(place, number, given, emission),
+            Emitted::Cut(excerpt) => self.push_given(place, number, given, excerpt),
+            Emitted::Made(draft) => self.push_made(place, number, given, draft),
         }
     }
 
-    /// Adds the row of a record with its own value or with a slice of one of its parts as the value.
+    /// Adds the row of an excerpt of a record.
     #[inline(always)]
     pub(crate) fn push_given(
         &mut self,
         place: &Place,
         number: usize,
         given: &Given<'a>,
-        slice: Option<PartSlice>,
+        excerpt: Excerpt,
     ) -> Result<(), AllocError>
         requires place { IsPlace place.now }
         requires few { number < MAX_EMISSIONS }
-        ensures { OnOk result (self.new ≡ self.old ++ row_of place.now number (excerpt given.now slice) ∷ []) }
+        ensures { OnOk result (self.new ≡ self.old ++ row_of place.now number (excerpt_in given.now excerpt) ∷ []) }
     {
         self.slots
-            .push(slot_for(place, number, given, SlotParts::Given(slice)))?;
+            .push(slot_for(place, number, given, SlotParts::Given(excerpt)))?;
         Ok(())
     }
 
@@ -204,15 +190,15 @@ impl<'a> RowRefs<'a> {
         place: &Place,
         number: usize,
         given: &Given<'a>,
-        emission: Emission,
+        draft: Draft,
     ) -> Result<(), AllocError>
         requires place { IsPlace place.now }
         requires few { number < MAX_EMISSIONS }
-        ensures { OnOk result (self.new ≡ self.old ++ row_of place.now number emission ∷ []) }
+        ensures { OnOk result (self.new ≡ self.old ++ row_of place.now number (emission_of given.now draft) ∷ []) }
     {
         let made = self.made.len();
         make_room(&mut self.made, self.slots.capacity())?;
-        self.made.push(emission)?;
+        self.made.push(MadeRecord::new(given, draft))?;
         self.slots
             .push(slot_for(place, number, given, SlotParts::Made(made)))?;
         Ok(())
@@ -225,14 +211,15 @@ impl<'a> RowRefs<'a> {
         self.slots.len()
     }
 
-    /// The row with a number, from 0.
+    /// The row with a number, from 0. A value that is nowhere in one piece is written to the room, in place of what is
+    /// there. It fails only where memory runs out.
     #[inline(always)]
-    pub fn row(&self, index: usize) -> RowRef<'_>
+    pub fn row<'r>(&'r self, index: usize, room: &'r mut Vec<u8>) -> Result<RowRef<'r>, AllocError>
         requires { index < length self.now }
-        ensures { slice_get self.now index ≡ Some result }
+        ensures { IfOk result (λ row. slice_get self.now index ≡ Some row) }
     {
         let slot = &self.slots[index];
-        row_of_slot(&self.made, slot)
+        row_of_slot(&self.made, slot, room)
     }
 
     /// The rows as books have them. They own what has their parts. It fails only where memory runs out.
@@ -243,7 +230,8 @@ impl<'a> RowRefs<'a> {
         if made.is_empty() {
             return given_rows(alloc, slots.as_slice());
         }
-        let made = Arc::new(alloc, Made { list: made })?;
+        let list = emissions(alloc, made)?;
+        let made = Arc::new(alloc, Made { list })?;
         book_rows(alloc, slots.as_slice(), &made)
     }
 }

@@ -6,17 +6,14 @@ ghost use Rattle.wire_spec.specs.BatchSpelling.{batch_spelling, BatchFits};
 ghost use Rattle.row_batch.specs.RowBatches.{batch_of};
 ghost use Rattle.row_batch.specs.OpenBatches.{AddsIfRoom, base_with};
 
-use crate::front::{pad, with_front};
+use crate::front::{ready, with_front};
 use crate::records::put_if_room;
 use crate::rows::head;
-use batch::{HEADER, MAX_BATCH, MAX_RECORDS, begin, finish};
+use batch::{HEADER, MAX_RECORDS, begin, finish};
 use log_spec::RowRef;
 use std::alloc::{AllocError, Global};
 use std::marker::Model;
 use std::mem;
-
-/// From this size on a batch that is being filled has room for all bytes that it may have.
-const LARGE: usize = 65_536;
 
 /// A record batch of rows that is being filled. It keeps their records' bytes and no row, so that nothing
 /// of the batches that the rows came from stays. Contracts see the rows as the batch shows them.
@@ -86,7 +83,7 @@ impl OpenBatch {
             return Ok(false);
         }
         let base = base_for(self.base, self.count, row);
-        pad(&mut self.bytes)?;
+        ready(&mut self.bytes)?;
         let put = put_if_room(base, row, self.count, &mut self.bytes)?;
         if !put {
             return Ok(false);
@@ -95,17 +92,6 @@ impl OpenBatch {
         self.count += 1;
         self.latest = self.latest.max(row.timestamp);
         Ok(true)
-    }
-
-    /// Takes room for all bytes that a batch may have, where there are many already: of a list that grows by
-    /// steps holes would stay in memory. Where there is no such room, nothing changes.
-    pub fn make_room(&mut self)
-        ensures { self.new ≡ self.old }
-    {
-        let size = self.bytes.len();
-        if size > LARGE && self.bytes.capacity() < MAX_BATCH {
-            let _room = self.bytes.reserve_exact(MAX_BATCH - size);
-        }
     }
 
     /// The bytes of the batch, whose first row has this offset. Then it has no rows, and no room before

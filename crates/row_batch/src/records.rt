@@ -11,7 +11,7 @@ use batch::{HEADER, MAX_BATCH, MAX_RECORDS};
 use kafka_record::{HeadersRef, NullableBytes, size_of_parts, write_parts, write_spelled};
 use log_spec::RowRef;
 use std::alloc::AllocError;
-use wire_spec::TIMESTAMP_END;
+use wire_spec::{MAX_HEADER_SIZE, TIMESTAMP_END};
 
 /// About how many bytes a record has without its key, value and headers.
 const LIKELY_RECORD: usize = 12;
@@ -72,11 +72,21 @@ fn row_size(base: u64, row: &RowRef, place: usize) -> usize
     size_of_parts(delta, &key, &value, &row.headers, place as i32)
 }
 
-/// Whether a batch of this size may have no room for a row. Where it returns false, headers may still be too
-/// much for it.
+/// The most bytes that a row's headers take, where they are apart from the rest.
+#[inline(always)]
+fn most_headers(row: &RowRef) -> usize {
+    match row.parts {
+        Some(_) => 0,
+        None => row.headers.len().saturating_mul(MAX_HEADER_SIZE),
+    }
+}
+
+/// Whether a batch of this size may have no room for a row. A row that is written beyond a batch's room makes the list
+/// grow, and is cut off again.
 #[inline(always)]
 fn may_be_full(size: usize, row: &RowRef) -> bool {
-    size.saturating_add(likely_parts(row)) > NEARLY_FULL
+    let more = likely_parts(row).saturating_add(most_headers(row));
+    size.saturating_add(more) > NEARLY_FULL
 }
 
 /// Writes a row as `put_row` does, if a batch has room for it then, and returns whether it has. An `Err`

@@ -140,34 +140,29 @@ pub row_is : (rows : List Row) (index : ℕ) (row : Row) → slice_get rows inde
 row_is rows index row at = sym (get_or_from_slice_get rows index row row at)
 
 -- the first of the rows that are left, and the others
-first_left : (rows : List Row) (index : ℕ) (row : Row) → index < length rows → row ≡ slice_index_or rows index row →
+pub first_left : (rows : List Row) (index : ℕ) (row : Row) → index < length rows → row ≡ slice_index_or rows index row →
     drop index rows ≡ row ∷ drop (index + 1) rows
 first_left rows index row more is =
     let next : suc index ≡ index + 1 = omega arith in
     drop-cons rows index row more
     ∙ (ap (λ (r : Row). r ∷ drop (suc index) rows) (sym is) ∙ ap (λ (n : ℕ). row ∷ drop n rows) next)
 
-pub put_next : (old mid new : Waiting) (rows : List Row) (index : ℕ) (row : Row) (a b c : Option (List ℕ)) →
-    index < length rows → row ≡ slice_index_or rows index row →
+-- one row more, or none
+pub put_next : (old mid new : Waiting) (rows : List Row) (index : ℕ) (a b c : Option (List ℕ)) →
     WroteFull (with_rows old rows) a (with_rows mid (drop index rows)) b →
-    WroteFull (with_rows mid (row ∷ drop (index + 1) rows)) b (with_rows new (drop (index + 1) rows)) c →
+    WroteFull (with_rows mid (drop index rows)) b (with_rows new (drop (index + 1) rows)) c →
     WroteFull (with_rows old rows) a (with_rows new (drop (index + 1) rows)) c
-put_next old mid new rows index row a b c more is so_far next =
-    let left = first_left rows index row more is in
-    wrote_then (with_rows old rows) (with_rows mid (row ∷ drop (index + 1) rows))
-    (with_rows new (drop (index + 1) rows)) a b c
-    (subst (λ (rs : List Row). WroteFull (with_rows old rows) a (with_rows mid rs) b) left so_far) next
+put_next old mid new rows index a b c so_far next =
+    wrote_then (with_rows old rows) (with_rows mid (drop index rows)) (with_rows new (drop (index + 1) rows)) a b c
+    so_far next
 
-pub put_stops : (old mid : Waiting) (rows : List Row) (index : ℕ) (row : Row) (a b c : Option (List ℕ))
-    (why : OutletFault) → index < length rows → row ≡ slice_index_or rows index row →
+pub put_stops : (old mid : Waiting) (rows : List Row) (index : ℕ) (a b c : Option (List ℕ)) (why : OutletFault) →
     WroteFull (with_rows old rows) a (with_rows mid (drop index rows)) b →
-    FailsFull (with_rows mid (row ∷ drop (index + 1) rows)) b why c → FailsFull (with_rows old rows) a why c
-put_stops old mid rows index row a b c why more is so_far next =
-    let left = first_left rows index row more is in (
-      next.0,
-      wrote_then_stops_full (with_rows old rows) (with_rows mid (row ∷ drop (index + 1) rows)) a b c why
-          (subst (λ (rs : List Row). WroteFull (with_rows old rows) a (with_rows mid rs) b) left so_far) next.1,
-    )
+    FailsFull (with_rows mid (drop index rows)) b why c → FailsFull (with_rows old rows) a why c
+put_stops old mid rows index a b c why so_far next = (
+  next.0,
+  wrote_then_stops_full (with_rows old rows) (with_rows mid (drop index rows)) a b c why so_far next.1,
+)
 
 -- ---- the end
 

@@ -75,13 +75,6 @@ impl Backlog {
         PLACE_END - self.place - self.batch.len() as u64
     }
 
-    /// Takes room for all bytes that a batch may have, where those that wait have many.
-    pub fn make_room(&mut self)
-        ensures { self.new ≡ self.old }
-    {
-        self.batch.make_room();
-    }
-
     /// Adds a row at the end, where one batch has room for it and those that wait, and returns whether
     /// it has; it always has where none waits. It fails only where memory runs out; then nothing
     /// changes.

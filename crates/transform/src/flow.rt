@@ -191,7 +191,7 @@ impl<W: Write> Transform<W> {
         part_refs_in(&mut self.blocks, origin, program, batch, part, rows)?;
         self.counts.add_all(rows.counts())?;
         self.offset += part.count as u64;
-        put_each(rows, &mut self.outlets)
+        put_each(self.blocks.alloc(), rows, &mut self.outlets)
     }
 
     // Runs a program on the records of a batch from a number on, and drops what they emit.
@@ -262,14 +262,19 @@ fn push_parts<W: Write>(
     Ok(())
 }
 
-// Puts rows into each output partition.
-fn put_each<W: Write>(rows: &ItemRefs, outlets: &mut [Outlet<W>]) -> Result<(), TransformFault>
+// Puts rows into each output partition. Values that programs changed are spelled in one room, one after the other.
+fn put_each<W: Write>(
+    alloc: Global,
+    rows: &ItemRefs,
+    outlets: &mut [Outlet<W>],
+) -> Result<(), TransformFault>
     requires count { length rows.now.rows ≡ length outlets.old }
     requires fit { (output : ℕ) → output < length outlets.old → All RowFits (rows_in rows.now.rows output) }
     ensures { PutsEach rows.now.rows outlets.old result outlets.new }
 {
+    let mut room = Vec::new(alloc);
     for output in 0..outlets.len() {
-        put_one(output, rows.rows(output), outlets)?;
+        put_one(output, rows.rows(output), &mut room, outlets)?;
     }
     Ok(())
 }
@@ -278,13 +283,14 @@ fn put_each<W: Write>(rows: &ItemRefs, outlets: &mut [Outlet<W>]) -> Result<(), 
 fn put_one<W: Write>(
     output: usize,
     rows: &RowRefs,
+    room: &mut Vec<u8>,
     outlets: &mut [Outlet<W>],
 ) -> Result<(), TransformFault>
     requires within { output < length outlets.old }
     requires fit { All RowFits rows.now }
     ensures { PutsOne output rows.now outlets.old result outlets.new }
 {
-    match outlets[output].put(rows) {
+    match outlets[output].put(rows, room) {
         Ok(()) => Ok(()),
         Err(fault) => Err(TransformFault::Output { output, fault }),
     }

@@ -1,6 +1,6 @@
 //! An output partition's rows as record batches in a writer.
 
-ghost use Rattle.std.specs.Prelude.{◌≡◌, ◌<◌, ◌≤◌, ◌+◌, ◌^◌, List, [], ◌∷◌, length, All};
+ghost use Rattle.std.specs.Prelude.{◌≡◌, ◌<◌, ◌≤◌, ◌+◌, ◌^◌, List, [], ◌∷◌, length, drop, All};
 ghost use Rattle.log_spec.specs.declared.row.Row.{Row};
 ghost use Rattle.log_spec.specs.Logs.{RowFits};
 ghost use Rattle.transform.specs.Backlogs.{waiting, with_rows};
@@ -101,16 +101,16 @@ impl<W: Write> Outlet<W> {
     /// that it has no room for. It is full only where an offset would be 2^63 or more; then nothing
     /// changes. It fails otherwise only where memory runs out, and where the writer fails or takes no
     /// byte. Then whole batches were written of the rows that waited and of these, and where the
-    /// writer failed, a beginning of one more; what waits is not said.
-    pub fn put(&mut self, rows: &RowRefs) -> Result<(), OutletFault>
+    /// writer failed, a beginning of one more; what waits is not said. The room is for values that are
+    /// spelled for their rows.
+    pub fn put(&mut self, rows: &RowRefs, room: &mut Vec<u8>) -> Result<(), OutletFault>
         requires { All RowFits rows.now }
         ensures { PutsRows self.old rows.now result self.new }
     {
         if rows.len() as u64 > self.backlog.room() {
             return Err(OutletFault::Full);
         }
-        self.backlog.make_room();
-        put_rows(rows, &mut self.backlog, &mut self.writer)
+        put_rows(rows, room, &mut self.backlog, &mut self.writer)
     }
 
     /// Writes the batch of all rows that wait; none waits then. It fails only where memory runs out, and
@@ -129,6 +129,7 @@ impl<W: Write> Outlet<W> {
 // Adds rows, and writes each batch that has no room for the next one.
 fn put_rows<W: Write>(
     rows: &RowRefs,
+    room: &mut Vec<u8>,
     backlog: &mut Backlog,
     writer: &mut W,
 ) -> Result<(), OutletFault>
@@ -137,9 +138,27 @@ fn put_rows<W: Write>(
     ensures { PutsFull (with_rows backlog.old rows.now) (W.contents writer.old) result backlog.new (W.contents writer.new) }
 {
     for index in 0..rows.len() {
-        put_row(&rows.row(index), backlog, writer)?;
+        put_next(&*rows, index, room, backlog, writer)?;
     }
     Ok(())
+}
+
+// Adds the row with a number, as `put_row` does. The room is for its value.
+#[inline(always)]
+fn put_next<'r, W: Write>(
+    rows: &'r RowRefs,
+    index: usize,
+    room: &'r mut Vec<u8>,
+    backlog: &mut Backlog,
+    writer: &mut W,
+) -> Result<(), OutletFault>
+    requires within { index < length rows.now }
+    requires fit { All RowFits rows.now }
+    requires room { backlog.old.place + length backlog.old.rows < 2 ^ 63 }
+    ensures { PutsFirst (outflow (W.contents writer.old) backlog.old) (drop index rows.now) result (outflow (W.contents writer.new) backlog.new) (drop (index + 1) rows.now) }
+{
+    let row = rows.row(index, room)?;
+    put_row(&row, backlog, writer)
 }
 
 // Adds a row, after the batch of those that wait was written where it has no room for it. Rows may come

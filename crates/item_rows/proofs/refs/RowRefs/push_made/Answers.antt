@@ -11,7 +11,7 @@ pub invariant_of-self-in_err-push-2 : goal.invariant_of-self-in_err-push-2
 invariant_of-self-in_err-push-2 c =
     let inside = c.self.inside in let end = length inside.made.items in
     let more : length c.push.new.self.items ≡ end + 1 = ap length c.in_ok-push.ensures.items
-    ∙ (length-append c.make_room.new.made.items (c.args.emission ∷ [])
+    ∙ (length-append c.make_room.new.made.items (c.new.result ∷ [])
     ∙ ap (λ (es : List Emission). length es + 1) c.make_room.ensures) in
     subst (λ (ss : List Slot). AreWithin (length c.push.new.self.items) ss) (sym c.in_err-push-2.ensures.items)
     (all_within end (length c.push.new.self.items) inside.slots.items (omega (arith, more)) c.self.invariant)
@@ -20,7 +20,7 @@ pub invariant_of-self-2 : goal.invariant_of-self-2
 invariant_of-self-2 c =
     let inside = c.self.inside in let end = length inside.made.items in
     let more : length c.push.new.self.items ≡ end + 1 = ap length c.in_ok-push.ensures.items
-    ∙ (length-append c.make_room.new.made.items (c.args.emission ∷ [])
+    ∙ (length-append c.make_room.new.made.items (c.new.result ∷ [])
     ∙ ap (λ (es : List Emission). length es + 1) c.make_room.ensures) in
     let last : c.len-made.result ≡ end = omega (arith, c.len-made.ensures, inside.made.ok.0) in
     subst (λ (ss : List Slot). AreWithin (length c.push.new.self.items) ss) (sym c.in_ok-push-2.ensures.items)
@@ -31,11 +31,12 @@ invariant_of-self-2 c =
 pub returns : goal.returns
 returns c =
     let inside = c.self.inside in let made = inside.made.items in let slots = inside.slots.items in let slot =
-    c.slot_for.result in let row = row_of c.args.place.now c.args.number in let emission = c.args.emission in
+    c.slot_for.result in let row = row_of c.args.place.now c.args.number in let emission = c.new.result in
     let last : c.len-made.result ≡ length made = omega (arith, c.len-made.ensures, inside.made.ok.0) in
     ap (λ (es : List Emission). rows_by es c.push-2.new.self.items)
     (c.in_ok-push.ensures.items ∙ ap (λ (es : List Emission). es ++ emission ∷ []) c.make_room.ensures)
     ∙ (ap (rows_by (made ++ emission ∷ [])) c.in_ok-push-2.ensures.items
     ∙ (made_more made slots slot emission row c.self.invariant
     (c.slot_for.ensures.parts.1 ∙ ap slot_parts.Made last) c.slot_for.ensures.row
-    ∙ ap (λ (rs : List Row). rs ++ row emission ∷ []) c.self.view_is))
+    ∙ (ap (λ (rs : List Row). rs ++ row emission ∷ []) c.self.view_is
+    ∙ ap (λ (e : Emission). c.args.self.now ++ row e ∷ []) c.new.ensures)))

@@ -1,6 +1,6 @@
 use Rattle.std.proofs.Common.{◌≡◌, ◌-◌, ◌++◌, take, replicate, ◌∙◌, length, rules}
 use Rattle.row_batch.proofs.OpenLaws.{padded_short}
-use Rattle.row_batch.proofs.front.pad.Goals as goal
+use Rattle.row_batch.proofs.front.ready.Goals as goal
 
 pub returns-in_ok-resize-clause-ok : goal.returns-in_ok-resize-clause-ok
 returns-in_ok-resize-clause-ok c =
