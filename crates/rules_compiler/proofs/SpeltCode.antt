@@ -233,13 +233,13 @@ spelt_turned SwappedWidth.Bits64 = record {
 }
 
 pub ordered_spelt : (layout : Layout) → IsSpelt (ordered layout)
-ordered_spelt Byte = spelt_copy 0 refl 0 refl
+ordered_spelt Byte = spelt_copy 1 refl 0 refl
 ordered_spelt U16Be = spelt_turned SwappedWidth.Bits16
 ordered_spelt U32Be = spelt_turned SwappedWidth.Bits32
 ordered_spelt U64Be = spelt_turned SwappedWidth.Bits64
-ordered_spelt U16Le = spelt_copy 0 refl 0 refl
-ordered_spelt U32Le = spelt_copy 0 refl 0 refl
-ordered_spelt U64Le = spelt_copy 0 refl 0 refl
+ordered_spelt U16Le = spelt_copy 1 refl 0 refl
+ordered_spelt U32Le = spelt_copy 1 refl 0 refl
+ordered_spelt U64Le = spelt_copy 1 refl 0 refl
 
 pub size_small : (layout : Layout) → layout_size layout < 2 ^ 31
 size_small Byte = omega arith

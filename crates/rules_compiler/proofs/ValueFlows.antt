@@ -12,6 +12,8 @@ use Rattle.machine_spec.specs.declared.instruction.Source.TheVariants.{Immediate
 use Rattle.machine_spec.specs.declared.operation.Width.TheVariants.{Bits64}
 use Rattle.machine_spec.specs.declared.operation.Test.TheVariants as jumps
 use Rattle.machine_spec.specs.Values.{immediate, byte_count}
+use Rattle.std.proofs.Common.{subst}
+use Rattle.verifier_spec.specs.{declared.state.StackSet.StackSet, StackSets.is_set}
 use Rattle.verifier_spec.specs.declared.{state.Abs.Abs, state.Abstract.Abstract, interval.Interval.Interval}
 use Rattle.verifier_spec.specs.States.{is_within, is_proper, each_below}
 use Rattle.verifier_spec.specs.{StackSets.no_places, Ranges.lengths_from_to, Intervals.from_to, Checks.failed_check}
@@ -272,6 +274,15 @@ sizes_same : (layout : Layout) → byte_count (size_of layout) ≡ layout_size l
 sizes_same Byte = refl
 sizes_same _ = refl
 
+-- a state in which the value has at least so many bytes is within one in which it may have fewer
+longer : (a b : Abstract) (least : ℕ) → each_below 11 (λ r. is_kind_within a (kind_at a r) (kind_at b r)) ≡ true → a.key ≡ b.key →
+    a.value ≡ lengths_from_to least MAX_VALUE → b.value ≡ lengths_from_to 0 MAX_VALUE → b.set ≡ no_places → is_within a b ≡ true
+longer a b least kinds key value all set = within_from a b (record {
+  kinds = each_below_at 11 (λ r. is_kind_within a (kind_at a r) (kind_at b r)) kinds;
+  lengths = narrower_from a b (rw key (range_refl b.key)) (rw (value, all, le-leb 0 least (omega arith)) refl);
+  set = λ place low e. absurd (nothing_set place low (subst (λ (s : StackSet). is_set s place ≡ true) set e));
+})
+
 module _ (least : ℕ) (few : least ≤ MAX_VALUE) where
   abbrev read : Layout → Abstract
   read layout = ranged least MAX_VALUE (loaded_kind (size_of layout) Zero) (Abs.Num 0 0)
@@ -289,21 +300,15 @@ module _ (least : ℕ) (few : least ≤ MAX_VALUE) where
   rest_passed U32Le = refl
   rest_passed U64Le = refl
 
-  within_valued : (high : ℕ) → nat_le high (2 ^ 64 - 1) ≡ true →
-      is_within (ranged least MAX_VALUE (Abs.Num 0 high) (Abs.Num 1 1)) valued ≡ true
-  unfolding each_below
-  within_valued high small =
-      ranged_within least MAX_VALUE 0 MAX_VALUE (Abs.Num 0 high) (Abs.Num 1 1) any bit (rw small refl) (omega arith) (omega arith)
-
   rest_within : (layout : Layout) → is_within (after (rest_list layout) (read layout)) valued ≡ true
-  unfolding falls_to
-  rest_within Byte = within_valued (2 ^ 8 - 1) refl
-  rest_within U16Be = within_valued (2 ^ 16 - 1) refl
-  rest_within U32Be = within_valued (2 ^ 32 - 1) refl
-  rest_within U64Be = within_valued (2 ^ 64 - 1) refl
-  rest_within U16Le = within_valued (2 ^ 16 - 1) refl
-  rest_within U32Le = within_valued (2 ^ 32 - 1) refl
-  rest_within U64Le = within_valued (2 ^ 64 - 1) refl
+  unfolding falls_to each_below
+  rest_within Byte = longer (after (rest_list Byte) (read Byte)) valued least refl refl refl refl refl
+  rest_within U16Be = longer (after (rest_list U16Be) (read U16Be)) valued least refl refl refl refl refl
+  rest_within U32Be = longer (after (rest_list U32Be) (read U32Be)) valued least refl refl refl refl refl
+  rest_within U64Be = longer (after (rest_list U64Be) (read U64Be)) valued least refl refl refl refl refl
+  rest_within U16Le = longer (after (rest_list U16Le) (read U16Le)) valued least refl refl refl refl refl
+  rest_within U32Le = longer (after (rest_list U32Le) (read U32Le)) valued least refl refl refl refl refl
+  rest_within U64Le = longer (after (rest_list U64Le) (read U64Le)) valued least refl refl refl refl refl
 
   read_passing : (layout : Layout) (place : ℕ) → place + layout_size layout ≤ least →
       Passing (value_load layout place) (ranged least MAX_VALUE Abs.None (Abs.Num 0 0)) valued

@@ -49,15 +49,15 @@ size_of U64Le = Size.Double
 abbrev pub turned : SwappedWidth → Instruction
 turned width = Unary (Order BigEndian width) ANSWER ANSWER
 
--- the bytes of r0 as the layout orders them
+-- the bytes of r0 as the layout orders them; where they are so, r1 gets them too
 abbrev pub ordered : Layout → Instruction
-ordered Byte = copy ANSWER ANSWER
+ordered Byte = copy 1 ANSWER
 ordered U16Be = turned Bits16
 ordered U32Be = turned Bits32
 ordered U64Be = turned Bits64
-ordered U16Le = copy ANSWER ANSWER
-ordered U32Le = copy ANSWER ANSWER
-ordered U64Le = copy ANSWER ANSWER
+ordered U16Le = copy 1 ANSWER
+ordered U32Le = copy 1 ANSWER
+ordered U64Le = copy 1 ANSWER
 
 -- so many bytes of the part from a place on are copied to the stack; r0 gets 0 where they are there
 abbrev pub room_call : (size place : ℕ) → List Instruction
