@@ -1,48 +1,43 @@
 -- What the code of tests and conditions does.
-use Rattle.std.proofs.Common.{◌≡◌, ℕ, ◌+◌, ◌*◌, ◌/◌, ◌%◌, ◌^◌, ◌<◌, ◌≤◌, pos, Bool, true, false, not}
-use Rattle.std.proofs.Common.{◌&&◌, ◌||◌, ◌==◌, nat_lt, nat_le, if◌then◌else◌, List, [], ◌∷◌, ◌++◌, length, Option, Some}
-use Rattle.std.proofs.Common.{None, refl, sym, ap, ◌∙◌, subst, arith}
+use Rattle.rules_compiler.specs.Tests.{is_plain, value_length_code, term_compare_code}
+use Rattle.std.proofs.Common.{option_map}
+use Rattle.std.proofs.lemmas.Bool.{and_parts}
+use Rattle.rules.specs.declared.rule.Term.TheVariants as term
+use Rattle.std.proofs.Common.{◌≡◌, ℕ, ◌+◌, ◌*◌, ◌/◌, ◌%◌, ◌^◌, ◌<◌, pos, Bool, true, false, not}
+use Rattle.std.proofs.Common.{◌&&◌, ◌||◌, ◌==◌, nat_lt, List, [], ◌∷◌, ◌++◌, length, Option, Some}
+use Rattle.std.proofs.Common.{None, refl, ap, ◌∙◌, arith}
 use Rattle.std.specs.Int.{w32, cast_signed}
-use Rattle.std.proofs.lemmas.Bool.{cond_both, ne_eqb, ltb-true}
+use Rattle.std.proofs.lemmas.Bool.{cond_both, ltb-true}
 use Rattle.std.proofs.lemmas.{Int.of_z-to_z}
 use Rattle.machine_spec.specs.declared.instruction.Instruction.{Instruction}
 use Rattle.machine_spec.specs.declared.instruction.Source.TheVariants.{Register, Immediate}
-use Rattle.machine_spec.specs.declared.operation.{Test.Test as Jumps, Operation.TheVariants.Xor}
+use Rattle.machine_spec.specs.declared.operation.{Operation.TheVariants.Xor}
 use Rattle.machine_spec.specs.declared.operation.Width.TheVariants.{Bits32, Bits64}
 use Rattle.machine_spec.specs.declared.operation.Test.TheVariants as jumps
 use Rattle.machine_spec.specs.Values.{Number, is_taken, immediate}
 use Rattle.machine_spec.specs.Machine.{Input, State, state_after, goes_to}
-use Rattle.machine_spec.specs.Signatures.{helper_among}
-use Rattle.machine_spec.specs.{Parts.length_answer, Parts.part_in}
+use Rattle.machine_spec.specs.{Parts.length_answer}
 use Rattle.verifier_spec.specs.StandsFor.{IsInput}
 use Rattle.rules.specs.declared.{rule.Part.Part, rule.Term.Term, rule.Comparison.Comparison}
 use Rattle.rules.specs.declared.{rule.Test.Test as Tests}
 use Rattle.rules.specs.declared.rule.Comparison.TheVariants as comparison
 use Rattle.rules.specs.declared.rule.Test.TheVariants as test
 use Rattle.rules.specs.Lines.{Formula, Single, Negated, Both, Either}
-use Rattle.rules.specs.Meaning.{is_null, is_absent, test_equals, test_begins, passes_if, term_value, compares, compares_if, test_holds, holds}
+use Rattle.rules.specs.Meaning.{is_null, is_absent, term_value, compares, compares_if, test_holds, holds}
 use Rattle.rules.specs.Limits.{IsText, FitsPart, FitsTerm, FitsTest, HasFitting}
-use Rattle.rules_compiler.specs.Code.{Code, Plain, Then, Unless}
-use Rattle.rules_compiler.specs.Pieces.{set, change, number_code, word_count, text_code, part_code, measure}
+use Rattle.rules_compiler.specs.Code.{Code, Plain, Unless}
+use Rattle.rules_compiler.specs.Pieces.{set, change, number_code, part_code, measure}
 use Rattle.rules_compiler.specs.Terms.{term_code}
-use Rattle.rules_compiler.specs.Tests.{value_test_code, is_short, equal_code, begins_code}
-use Rattle.rules_compiler.proofs.ValueEffects.{equal_texts, value_equal_decides, value_begins_decides}
 use Rattle.rules.specs.declared.rule.Part.TheVariants as part
-use Rattle.rules_compiler.specs.Tests.{sized, stands, text_test_code, length_test_code, test_of, comparing_code, compare_code, test_code}
+use Rattle.rules_compiler.specs.Tests.{length_test_code, test_of, comparing_code, compare_code, test_code}
 use Rattle.rules_compiler.specs.Rules.{condition_code}
-use Rattle.rules_compiler.specs.declared.pieces.TheConstants.{NEAR}
 use Rattle.rules_compiler.proofs.Ready.{Ready, small_immediate}
-use Rattle.rules_compiler.proofs.Texts.{near_stands, runs_both, HoldsText, text_has, text_read, bytes_of_text}
-use Rattle.rules_compiler.proofs.Parts.{found, bytes_found, absent_is, null_is, part_run}
-use Rattle.machine_spec.specs.{Parts.part_numbered, Places.stand_at, Values.result_of}
-use Rattle.machine_spec.specs.declared.operation.Operation.TheVariants.{Add}
-use Rattle.std.specs.{Str.bytes_eq, List.starts_with}
-use Rattle.std.proofs.Common.{nat_eq, unwrap_or}
-use Rattle.std.proofs.lemmas.Bool.{le-leb}
-use Rattle.rules_compiler.proofs.Walks.{On, run_list, run}
+use Rattle.rules_compiler.proofs.Parts.{found, absent_is, null_is}
+use Rattle.std.proofs.Common.{unwrap_or}
+use Rattle.rules_compiler.proofs.Walks.{run_list}
 use Rattle.rules_compiler.proofs.SearchEffects.{has_decides}
 use Rattle.rules_compiler.proofs.Courses.{Decides, HasTerm, bit_of}
-use Rattle.rules_compiler.proofs.Courses.{bytes_of_found, enter_decides, list_decides}
+use Rattle.rules_compiler.proofs.Courses.{enter_decides, list_decides}
 use Rattle.rules_compiler.proofs.Courses.{measures}
 use Rattle.rules_compiler.proofs.Courses.{skip_decides, then_decides}
 use Rattle.rules_compiler.proofs.TermEffects.{term_values}
@@ -174,15 +169,63 @@ module _ (input : Input) (how : Comparison) (n : ℕ) (small : n < 2 ^ 64) where
       enter_decides input jumps.Equal 8 (Immediate (pos 0)) (comparing_code how n) t (compares how a n) (rw has.0 refl)
       (compared (goes_to t (t.slot + 1)) a (assumption ready) has.0 has.1)
 
+-- ---- the value's length
+
+no_so : (b : Bool) → not b ≡ true → b ≡ false
+no_so true e = absurd cc
+no_so false e = refl
+
+-- a null value's length is none, and its bytes are no bytes
+plain_is : (o : Option (List ℕ)) (how : Comparison) (n : ℕ) → compares how 0 n ≡ false →
+    compares how (length (unwrap_or o [])) n ≡ compares_if how (option_map length o) n
+plain_is None how n e = e
+plain_is (Some bytes) how n e = refl
+
+module _ (input : Input) (how : Comparison) (n : ℕ) where
+  length_cleared : (t : State) (a : ℕ) (b : Bool) → Ready input t → t.registers 8 ≡ Number 1 → t.registers 7 ≡ Number a →
+      n < 2 ^ 31 → compares how a n ≡ b → Decides input (Unless (test_of how) 7 (Immediate (pos n)) (Plain (set 8 (pos 0) ∷ []))) t b
+  unfolding state_after
+  length_cleared t a true ready truth long small is =
+      let imm = small_immediate n small in
+      skip_decides input (test_of how) 7 (Immediate (pos n)) (Plain (set 8 (pos 0) ∷ [])) t true
+      (rw (long, imm) (taken_is how a n ∙ is)) ready truth
+  length_cleared t a false ready truth long small is =
+      let imm = small_immediate n small in
+      enter_decides input (test_of how) 7 (Immediate (pos n)) (Plain (set 8 (pos 0) ∷ [])) t false
+      (rw (long, imm) (taken_is how a n ∙ is))
+      (list_decides input (set 8 (pos 0) ∷ []) (goes_to t (t.slot + 1)) false (assumption ready) refl)
+
+  length_compares : is_plain how n ≡ true → (s : State) → Ready input s →
+      Decides input (value_length_code how n) s (compares_if how (option_map length input.given.value) n)
+  unfolding value_length_code state_after
+  length_compares plain s ready =
+      let both = and_parts (not (compares how 0 n)) (nat_lt n (2 ^ 31)) plain in
+      let t = run_list input (set 8 (pos 1) ∷ []) s in
+      let is = plain_is input.given.value how n (no_so (compares how 0 n) both.0) in
+      then_decides input (Plain (set 8 (pos 1) ∷ [])) (Unless (test_of how) 7 (Immediate (pos n)) (Plain (set 8 (pos 0) ∷ []))) s t
+      (compares_if how (option_map length input.given.value) n) refl
+      (length_cleared t (length (unwrap_or input.given.value [])) (compares_if how (option_map length input.given.value) n)
+      (assumption ready) refl ready.length_is (ltb-true n (2 ^ 31) both.1) is)
+
 module _ (input : Input) (given : IsInput input) where
-  compare_decides : (t : Term) (how : Comparison) (n : ℕ) → FitsTerm IsText t → n < 2 ^ 64 → (s : State) →
-      Ready input s → Decides input (compare_code t how n) s (compares_if how (term_value t input.given input.place) n)
-  unfolding compare_code
-  compare_decides t how n fits small s ready =
+  term_compare_decides : (t : Term) (how : Comparison) (n : ℕ) → FitsTerm IsText t → n < 2 ^ 64 → (s : State) →
+      Ready input s → Decides input (term_compare_code t how n) s (compares_if how (term_value t input.given input.place) n)
+  unfolding term_compare_code
+  term_compare_decides t how n fits small s ready =
       let v = term_values input given s ready t fits in
       let d = compares_term input how n small v.state (term_value t input.given input.place) v.ready v.has in
       then_decides input (term_code t) (Unless jumps.Equal 8 (Immediate (pos 0)) (comparing_code how n)) s v.state
       (compares_if how (term_value t input.given input.place) n) v.runs d
+
+  compare_decides : (t : Term) (how : Comparison) (n : ℕ) → FitsTerm IsText t → n < 2 ^ 64 → (s : State) →
+      Ready input s → Decides input (compare_code t how n) s (compares_if how (term_value t input.given input.place) n)
+  unfolding compare_code
+  compare_decides (term.Length part.Value) how n fits small s ready = cond_both (is_plain how n) (value_length_code how n)
+      (term_compare_code (term.Length part.Value) how n)
+      (λ code. Decides input code s (compares_if how (option_map length input.given.value) n))
+      (λ plain. length_compares input how n plain s ready)
+      (λ other. term_compare_decides (term.Length part.Value) how n fits small s ready)
+  compare_decides t how n fits small s ready = term_compare_decides t how n fits small s ready
 
   test_decides : (t : Tests) → FitsTest IsText t → (s : State) → Ready input s →
       Decides input (test_code t) s (test_holds t input.given input.place)

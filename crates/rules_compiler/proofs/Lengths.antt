@@ -1,6 +1,6 @@
 -- How long code is, and that code is too long of which a piece is.
 use Rattle.std.proofs.Common.{◌≡◌, ℕ, zero, suc, ◌+◌, ◌-◌, ◌*◌, ◌<◌, ◌≤◌, List, [], ◌∷◌, ◌++◌, length, take, drop, ap, ◌∙◌, sym, subst, arith}
-use Rattle.std.proofs.Common.{length-append, append_assoc, refl, pos, Some, get_or}
+use Rattle.std.proofs.Common.{length-append, append_assoc, refl, pos, get_or}
 use Rattle.std.proofs.{Math.Seq.drop-cons}
 use Rattle.std.proofs.lemmas.List.{length-drop}
 use Rattle.machine_spec.specs.declared.{instruction.Instruction.Instruction, limits.TheConstants.MAX_SLOTS}
@@ -11,17 +11,16 @@ use Rattle.machine_spec.specs.declared.instruction.{Size.Size, Extension.TheVari
 use Rattle.machine_spec.specs.declared.{instruction.Instruction.TheVariants.JumpIf, operation.Width.TheVariants.Bits64}
 use Rattle.machine_spec.specs.declared.operation.Operation.TheVariants.{Xor}
 use Rattle.machine_spec.specs.declared.operation.Test.TheVariants as jumps
-use Rattle.rules.specs.declared.{rule.Term.Term, rule.Comparison.Comparison, rule.Test.Test as Tests, rule.Action.Action}
-use Rattle.rules.specs.declared.rule.Test.TheVariants as test
+use Rattle.rules.specs.declared.{rule.Test.Test as Tests}
 use Rattle.rules.specs.Lines.{Formula, Single, Negated, Both, Either, Line, line_of, lines_of}
 use Rattle.rules_compiler.specs.declared.{fault.CompileFault.CompileFault, fault.Refusal.Refusal}
 use Rattle.rules_compiler.specs.declared.fault.CompileFault.TheVariants as fault
 use Rattle.rules_compiler.specs.declared.fault.Refusal.TheVariants as refusal
 use Rattle.rules_compiler.specs.Code.{Code, Plain, Then, Unless, instructions}
 use Rattle.rules_compiler.specs.declared.pieces.TheConstants.{ANSWER, LENGTH, TRUTH, VALUE}
-use Rattle.rules_compiler.specs.{Pieces.set, Pieces.change, Terms.term_code, Actions.action_code}
+use Rattle.rules_compiler.specs.{Pieces.set, Pieces.change}
 use Rattle.rules_compiler.specs.Faults.{IsTooLong, IsRefusedAt, IsFirstAfter, AreRefusedAfter, AreRefused}
-use Rattle.rules_compiler.specs.Tests.{match_byte, match_code, value_test_code, comparing_code, compare_code, test_code, searches_code}
+use Rattle.rules_compiler.specs.Tests.{match_byte, match_code, value_test_code, test_code, searches_code}
 use Rattle.rules_compiler.specs.Rules.{condition_code, line_code, lines_code, body_of, code_of}
 use Rattle.rules_compiler.specs.declared.searches.TheConstants.{PLACES}
 
@@ -102,18 +101,6 @@ block_long test register source block refusal.Memory long = tt
 pub memory_never : (list : List Instruction) (r : Refusal) → r ≡ refusal.Memory → IsTooLong list r
 memory_never list r is = rw is tt
 
-pub compare_long : (t : Term) (how : Comparison) (number : ℕ) (r : Refusal) →
-    IsTooLong (instructions (comparing_code how number)) r → IsTooLong (instructions (compare_code t how number)) r
-unfolding compare_code
-compare_long t how number r long =
-    next_long (term_code t) (Unless jumps.Equal TRUTH (Immediate (pos 0)) (comparing_code how number)) r
-    (block_long jumps.Equal TRUTH (Immediate (pos 0)) (comparing_code how number) r long)
-
-pub compared_long : (t : Term) (how : Comparison) (number : ℕ) (r : Refusal) →
-    IsTooLong (instructions (compare_code t how number)) r → IsTooLong (instructions (test_code (test.Compare t how number))) r
-unfolding test_code
-compared_long t how number r long = long
-
 pub single_long : (t : Tests) (r : Refusal) → IsTooLong (instructions (test_code t)) r →
     IsTooLong (instructions (condition_code (Single t))) r
 unfolding condition_code
@@ -149,19 +136,6 @@ unfolding condition_code
 either_other_long one other r long =
     next_long (condition_code one) (Unless jumps.NotEqual TRUTH (Immediate (pos 0)) (condition_code other)) r
     (block_long jumps.NotEqual TRUTH (Immediate (pos 0)) (condition_code other) r long)
-
-pub when_long : (action : Action) (c : Formula) (r : Refusal) → IsTooLong (instructions (condition_code c)) r →
-    IsTooLong (instructions (line_code (record { action = action; condition = Some c }))) r
-unfolding line_code
-when_long action c r long =
-    first_long (condition_code c) (Unless jumps.Equal TRUTH (Immediate (pos 0)) (action_code action)) r long
-
-pub action_long : (action : Action) (c : Formula) (r : Refusal) → IsTooLong (instructions (action_code action)) r →
-    IsTooLong (instructions (line_code (record { action = action; condition = Some c }))) r
-unfolding line_code
-action_long action c r long =
-    next_long (condition_code c) (Unless jumps.Equal TRUTH (Immediate (pos 0)) (action_code action)) r
-    (block_long jumps.Equal TRUTH (Immediate (pos 0)) (action_code action) r long)
 
 -- ---- rules one after another
 

@@ -10,6 +10,7 @@ pub mod Layouts
 pub mod SearchFlows
 pub mod ValueFlows
 pub mod TermFlows
+pub mod CompareFlows
 pub mod Shapes
 pub mod AddedFlows
 pub mod RuleFlows

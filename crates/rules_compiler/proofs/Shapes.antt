@@ -1,17 +1,15 @@
 -- The flow of each test and condition.
 use Rattle.std.proofs.Common.{subst}
-use Rattle.std.proofs.Common.{◌≡◌, ℕ, ◌+◌, ◌^◌, ◌≤◌, pos, length, true, false, List, [], ◌∷◌, ◌++◌}
-use Rattle.std.proofs.Common.{Option, Some, None, refl, arith, nat_lt, ℤ, ◌⊎◌, ⊎_elim, inl, inr}
+use Rattle.std.proofs.Common.{◌≡◌, ℕ, ◌+◌, ◌≤◌, pos, length, true, false, List, [], ◌∷◌, ◌++◌}
+use Rattle.std.proofs.Common.{Option, Some, None, refl, arith, ℤ, ◌⊎◌, ⊎_elim, inl, inr}
 use Rattle.std.proofs.lemmas.Bool.{cond_both}
 use Rattle.wire_spec.specs.declared.limits.TheConstants.{MAX_VALUE}
 use Rattle.machine_spec.specs.declared.{helper.TheConstants.HELPERS, instruction.Region.Region}
-use Rattle.machine_spec.specs.declared.instruction.Instruction.{Instruction}
-use Rattle.machine_spec.specs.declared.instruction.Instruction.TheVariants.{Move, Compute, JumpIf, Call}
-use Rattle.machine_spec.specs.declared.operation.Width.TheVariants.{Bits32, Bits64}
+use Rattle.machine_spec.specs.declared.instruction.Instruction.TheVariants.{Call}
+use Rattle.machine_spec.specs.declared.operation.Width.TheVariants.{Bits64}
 use Rattle.std.specs.Int.Count.{count_leading_zeros}
-use Rattle.machine_spec.specs.declared.instruction.Source.TheVariants.{Register, Immediate}
-use Rattle.machine_spec.specs.declared.operation.{Test.Test as Jumps, Operation.TheVariants.Xor, Operation.TheVariants.Add}
-use Rattle.machine_spec.specs.declared.operation.Operation.TheVariants.{LeftShift}
+use Rattle.machine_spec.specs.declared.instruction.Source.TheVariants.{Immediate}
+use Rattle.machine_spec.specs.declared.operation.{Test.Test as Jumps, Operation.TheVariants.Xor}
 use Rattle.machine_spec.specs.declared.operation.Test.TheVariants as jumps
 use Rattle.verifier_spec.specs.declared.{state.Abs.Abs, state.Abstract.Abstract, state.StackSet.StackSet}
 use Rattle.machine_spec.specs.Values.{immediate}
@@ -24,29 +22,29 @@ use Rattle.verifier_spec.specs.{Checks.failed_check}
 use Rattle.machine_spec.specs.Signatures.{helper_among}
 use Rattle.verifier_spec.specs.{Transfer.falls_to, Transfer.jumps_to}
 use Rattle.verifier_spec.proofs.{Joins.within_refl}
-use Rattle.rules.specs.declared.{rule.Part.Part, rule.Term.Term, rule.Comparison.Comparison}
+use Rattle.rules.specs.declared.{rule.Part.Part}
 use Rattle.rules.specs.declared.{rule.Test.Test as Tests}
 use Rattle.rules.specs.declared.rule.Test.TheVariants as test
 use Rattle.rules.specs.Lines.{Formula, Single, Negated, Both, Either}
 use Rattle.rules_compiler.specs.Code.{Code, Plain, Then, Unless}
-use Rattle.rules_compiler.specs.Pieces.{set, copy, change, high_half, low_half, word_count, text_code, part_code}
-use Rattle.rules_compiler.specs.Tests.{sized, name_text, stands, text_test_code, length_test_code, test_of, comparing_code, compare_code, test_code}
+use Rattle.rules_compiler.specs.Pieces.{set, copy, change, word_count, text_code, part_code}
+use Rattle.rules_compiler.specs.Tests.{sized, name_text, stands, text_test_code, length_test_code, test_code}
 use Rattle.rules_compiler.specs.Rules.{condition_code}
-use Rattle.rules.specs.Limits.{IsText, FitsPart, FitsTerm, FitsTest, HasFitting}
+use Rattle.rules.specs.Limits.{IsText, FitsPart, FitsTest, HasFitting}
 use Rattle.rules_compiler.proofs.Ready.{small_immediate}
 use Rattle.verifier_spec.proofs.Proper.{with_kind_proper}
 use Rattle.rules_compiler.proofs.Parts.{PartFlow, part_flow}
 use Rattle.rules_compiler.proofs.Texts.{near_stands, LeadsTo, leads_both, shape, words_of, named_rightly, text_leads, text_set}
 use Rattle.rules_compiler.specs.declared.pieces.TheConstants.{NEAR}
-use Rattle.rules_compiler.proofs.Flows.{Flow, Passing, Skips, pass, after, after_proper}
+use Rattle.rules_compiler.proofs.Flows.{Flow, Passing, after, after_proper}
 use Rattle.rules_compiler.proofs.SearchFlows.{has_flow}
-use Rattle.rules_compiler.proofs.TermFlows.{term_flow}
 use Rattle.rules_compiler.proofs.ValueFlows.{equal_flow, begins_flow}
+use Rattle.rules_compiler.proofs.CompareFlows.{compare_flow}
 use Rattle.rules_compiler.specs.Tests.{value_test_code, is_short, equal_code, begins_code}
 use Rattle.rules.specs.declared.rule.Part.TheVariants as part
 use Rattle.rules_compiler.proofs.States.{bit, decided, known, length_flow}
 use Rattle.rules_compiler.proofs.States.{loosely, measured, numbered, passing_from}
-use Rattle.rules_compiler.proofs.States.{settled, straight, valued}
+use Rattle.rules_compiler.proofs.States.{settled}
 
 -- ---- tests
 
@@ -84,71 +82,6 @@ length_test_flow p number fits is = ⊎_elim
       ),
     ))
     is
-
--- r0 is compared with a number in r1, where a list of instructions puts one there
-abbrev pub comparison_of : Jumps → List Instruction → Code
-comparison_of how list = Then (Plain list) (Unless how 0 (Register 1) (Plain (set 8 (pos 0) ∷ [])))
-
-abbrev pub comparing_jump : Jumps → Instruction
-comparing_jump how = JumpIf Bits64 how 0 (Register 1) (pos 1)
-
-pub listed_flow : (how : Jumps) (list : List Instruction) → pass list valued ≡ true →
-    failed_check HELPERS (comparing_jump how) (after list valued) ≡ None →
-    is_within (after list valued) decided ≡ true → Passing (set 8 (pos 0) ∷ []) (after list valued) decided →
-    Flow (comparison_of how list) valued decided
-unfolding falls_to jumps_to is_proper
-listed_flow how list passed checked within block =
-    let skips : Skips (comparing_jump how) (after list valued) (after list valued) decided = record {
-      checked = checked;
-      proper = after_proper list valued passed refl;
-      falls = within_refl (after list valued);
-      jumps = within;
-    } in
-    straight list (Unless how 0 (Register 1) (Plain (set 8 (pos 0) ∷ []))) valued decided passed refl
-    (after list valued, skips, block)
-
-abbrev pub small_list : ℕ → List Instruction
-small_list n = set 1 (pos n) ∷ []
-
-abbrev pub great_list : ℕ → List Instruction
-great_list n = Move Bits32 1 (Immediate (high_half n)) ∷ change LeftShift 1 (pos 32)
-    ∷ Move Bits32 2 (Immediate (low_half n)) ∷ Compute Bits64 Add 1 (Register 2) ∷ []
-
-pub comparing_flow : (how : Comparison) (n : ℕ) → Flow (comparing_code how n) valued decided
-unfolding comparing_code failed_check falls_to jumps_to each_below is_proper helper_among
-comparing_flow how n = cond_both (nat_lt n (2 ^ 31)) (small_list n) (great_list n)
-    (λ list. Flow (comparison_of (test_of how) list) valued decided)
-    (λ small. listed_flow (test_of how) (small_list n) refl refl
-    (loosely (after (small_list n) valued) decided refl refl refl refl)
-    (record {
-      passed = refl;
-      within = loosely (after (set 8 (pos 0) ∷ []) (after (small_list n) valued)) decided refl refl refl refl;
-    }))
-    (λ great. listed_flow (test_of how) (great_list n) refl refl
-    (loosely (after (great_list n) valued) decided refl refl refl refl)
-    (record {
-      passed = refl;
-      within = loosely (after (set 8 (pos 0) ∷ []) (after (great_list n) valued)) decided refl refl refl refl;
-    }))
-
-pub compare_flow : (t : Term) (how : Comparison) (n : ℕ) → FitsTerm IsText t →
-    Flow (compare_code t how n) settled decided
-unfolding compare_code failed_check falls_to jumps_to each_below is_proper helper_among
-compare_flow t how n fits = (
-  valued,
-  refl,
-  term_flow t fits,
-  (
-    valued,
-    record {
-      checked = refl;
-      proper = refl;
-      falls = loosely _ valued refl refl refl refl;
-      jumps = loosely _ decided refl refl refl refl;
-    },
-    comparing_flow how n,
-  ),
-)
 
 -- ---- texts
 

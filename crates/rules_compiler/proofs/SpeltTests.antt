@@ -1,4 +1,10 @@
 -- The code of terms, tests and conditions is read again from its spelling.
+use Rattle.rules_compiler.specs.Code.{Plain, Then, Unless}
+use Rattle.machine_spec.specs.declared.instruction.Source.TheVariants.{Immediate}
+use Rattle.rules_compiler.specs.Tests.{is_plain, value_length_code, term_compare_code}
+use Rattle.rules.specs.Meaning.{compares}
+use Rattle.std.proofs.lemmas.Bool.{and_parts}
+use Rattle.std.proofs.Common.{not}
 use Rattle.std.proofs.Common.{ℕ, zero, suc, ◌+◌, ◌-◌, ◌^◌, ◌<◌, ◌≤◌, pos, nat_lt}
 use Rattle.std.proofs.Common.{List, [], ◌∷◌, ◌++◌, length, refl, arith}
 use Rattle.std.proofs.{lemmas.Bool.cond_both}
@@ -111,6 +117,11 @@ unfolding comparing_code
 comparing_spells how n small = spells_then (spells_plain (number_code 1 n) (number_spelt 1 n refl small))
     (record { spelt = λ few. (spelt_against (test_of how) 1 (omega arith), (set_zero 8 refl, tt)) })
 
+length_spells : (how : Jumps) (n : ℕ) → n < 2 ^ 31 →
+    Spells (Then (Plain (set 8 (pos 1) ∷ [])) (Unless how 7 (Immediate (pos n)) (Plain (set 8 (pos 0) ∷ []))))
+length_spells how n small = spells_then (spells_plain (set 8 (pos 1) ∷ []) (set_one 8 refl, tt))
+    (spells_unless how 7 (pos n) refl (fits_imm n small) (spells_plain (set 8 (pos 0) ∷ []) (set_zero 8 refl, tt)))
+
 pub stands_spelt : (size : ℕ) → size ≤ 255 → AreSpelt (stands size)
 stands_spelt size few = (
   spelt_copy 1 refl 6 refl,
@@ -215,15 +226,25 @@ begins_spells part.Value text fits is = cond_both (is_short text) (value_test_co
 begins_spells part.Key text fits is = text_test_spells part.Key text jumps.GreaterOrEqual 2 fits is (omega arith)
 begins_spells (part.Header key) text fits is = text_test_spells (part.Header key) text jumps.GreaterOrEqual 2 fits is (omega arith)
 
+compare_spells : (t : Term) (how : Comparison) (n : ℕ) → FitsTerm IsText t → n < 2 ^ 64 → Spells (compare_code t how n)
+unfolding compare_code value_length_code term_compare_code
+compare_spells (term.Length part.Value) how n fits small = cond_both (is_plain how n) (value_length_code how n)
+    (term_compare_code (term.Length part.Value) how n) (λ code. Spells code)
+    (λ plain. length_spells (test_of how) n
+    (ltb-true n (2 ^ 31) (and_parts (not (compares how 0 n)) (nat_lt n (2 ^ 31)) plain).1))
+    (λ other. spells_then (term_spells (term.Length part.Value) fits)
+    (spells_unless jumps.Equal 8 (pos 0) refl fits_zero (comparing_spells how n small)))
+compare_spells t how n fits small = spells_then (term_spells t fits)
+    (spells_unless jumps.Equal 8 (pos 0) refl fits_zero (comparing_spells how n small))
+
 pub test_spells : (t : Tests) → FitsTest IsText t → Spells (test_code t)
-unfolding test_code compare_code
+unfolding test_code
 test_spells (test.Null p) fits = length_test_spells p 1 fits (omega arith)
 test_spells (test.Absent p) fits = length_test_spells p 0 fits (omega arith)
 test_spells (test.Equal p text) fits = equal_spells p text fits.0 fits.1
 test_spells (test.Begins p text) fits = begins_spells p text fits.0 fits.1
 test_spells (test.Has p text) fits = has_spells p text fits.0 fits.1
-test_spells (test.Compare t how n) fits = spells_then (term_spells t fits.0)
-    (spells_unless jumps.Equal 8 (pos 0) refl fits_zero (comparing_spells how n (omega (arith, fits.1.high_is))))
+test_spells (test.Compare t how n) fits = compare_spells t how n fits.0 (omega (arith, fits.1.high_is))
 
 pub condition_spells : (c : Formula) → HasFitting IsText c → Spells (condition_code c)
 unfolding condition_code

@@ -1,51 +1,39 @@
 -- What the code of tests of texts does.
-use Rattle.std.proofs.Common.{◌≡◌, ℕ, ◌+◌, ◌*◌, ◌/◌, ◌%◌, ◌^◌, ◌<◌, ◌≤◌, pos, Bool, true, false, not}
-use Rattle.std.proofs.Common.{◌&&◌, ◌||◌, ◌==◌, nat_lt, nat_le, if◌then◌else◌, List, [], ◌∷◌, ◌++◌, length, Option, Some}
+use Rattle.std.proofs.Common.{◌≡◌, ℕ, ◌+◌, ◌≤◌, pos, Bool, true, false}
+use Rattle.std.proofs.Common.{◌&&◌, ◌==◌, nat_le, if◌then◌else◌, List, [], ◌∷◌, ◌++◌, length, Option, Some}
 use Rattle.std.proofs.Common.{None, refl, sym, ap, ◌∙◌, subst, arith}
-use Rattle.std.specs.Int.{w32, cast_signed}
-use Rattle.std.proofs.lemmas.Bool.{cond_both, ne_eqb, ltb-true}
-use Rattle.std.proofs.lemmas.{Int.of_z-to_z}
-use Rattle.machine_spec.specs.declared.instruction.Instruction.{Instruction}
-use Rattle.machine_spec.specs.declared.instruction.Source.TheVariants.{Register, Immediate}
-use Rattle.machine_spec.specs.declared.operation.{Test.Test as Jumps, Operation.TheVariants.Xor}
-use Rattle.machine_spec.specs.declared.operation.Width.TheVariants.{Bits32, Bits64}
+use Rattle.std.proofs.lemmas.Bool.{cond_both, ne_eqb}
+use Rattle.machine_spec.specs.declared.instruction.Source.TheVariants.{Immediate}
+use Rattle.machine_spec.specs.declared.operation.{Test.Test as Jumps}
+use Rattle.machine_spec.specs.declared.operation.Width.TheVariants.{Bits64}
 use Rattle.machine_spec.specs.declared.operation.Test.TheVariants as jumps
 use Rattle.machine_spec.specs.Values.{Number, is_taken, immediate}
 use Rattle.machine_spec.specs.Machine.{Input, State, state_after, goes_to}
 use Rattle.machine_spec.specs.Signatures.{helper_among}
 use Rattle.machine_spec.specs.{Parts.length_answer, Parts.part_in}
 use Rattle.verifier_spec.specs.StandsFor.{IsInput}
-use Rattle.rules.specs.declared.{rule.Part.Part, rule.Term.Term, rule.Comparison.Comparison}
-use Rattle.rules.specs.declared.{rule.Test.Test as Tests}
-use Rattle.rules.specs.declared.rule.Comparison.TheVariants as comparison
-use Rattle.rules.specs.declared.rule.Test.TheVariants as test
-use Rattle.rules.specs.Lines.{Formula, Single, Negated, Both, Either}
-use Rattle.rules.specs.Meaning.{is_null, is_absent, test_equals, test_begins, passes_if, term_value, compares, compares_if, test_holds, holds}
-use Rattle.rules.specs.Limits.{IsText, FitsPart, FitsTerm, FitsTest, HasFitting}
+use Rattle.rules.specs.declared.{rule.Part.Part}
+use Rattle.rules.specs.Meaning.{test_equals, test_begins, passes_if}
+use Rattle.rules.specs.Limits.{IsText, FitsPart}
 use Rattle.rules_compiler.specs.Code.{Code, Plain, Then, Unless}
-use Rattle.rules_compiler.specs.Pieces.{set, change, number_code, word_count, text_code, part_code, measure}
-use Rattle.rules_compiler.specs.Terms.{term_code}
+use Rattle.rules_compiler.specs.Pieces.{set, word_count, text_code, part_code}
 use Rattle.rules_compiler.specs.Tests.{value_test_code, is_short, equal_code, begins_code}
 use Rattle.rules_compiler.proofs.ValueEffects.{equal_texts, value_equal_decides, value_begins_decides}
 use Rattle.rules.specs.declared.rule.Part.TheVariants as part
-use Rattle.rules_compiler.specs.Tests.{sized, stands, text_test_code, length_test_code, test_of, comparing_code, compare_code, test_code}
-use Rattle.rules_compiler.specs.Rules.{condition_code}
+use Rattle.rules_compiler.specs.Tests.{sized, stands, text_test_code}
 use Rattle.rules_compiler.specs.declared.pieces.TheConstants.{NEAR}
 use Rattle.rules_compiler.proofs.Ready.{Ready, small_immediate}
 use Rattle.rules_compiler.proofs.Texts.{near_stands, runs_both, HoldsText, text_has, text_read, bytes_of_text}
-use Rattle.rules_compiler.proofs.Parts.{found, bytes_found, absent_is, null_is, part_run}
+use Rattle.rules_compiler.proofs.Parts.{found, bytes_found, part_run}
 use Rattle.machine_spec.specs.{Parts.part_numbered, Places.stand_at, Values.result_of}
 use Rattle.machine_spec.specs.declared.operation.Operation.TheVariants.{Add}
 use Rattle.std.specs.{Str.bytes_eq, List.starts_with}
 use Rattle.std.proofs.Common.{nat_eq, unwrap_or}
 use Rattle.std.proofs.lemmas.Bool.{le-leb}
 use Rattle.rules_compiler.proofs.Walks.{On, run_list, run}
-use Rattle.rules_compiler.proofs.SearchEffects.{has_decides}
-use Rattle.rules_compiler.proofs.Courses.{Decides, HasTerm, bit_of}
+use Rattle.rules_compiler.proofs.Courses.{Decides, bit_of}
 use Rattle.rules_compiler.proofs.Courses.{bytes_of_found, enter_decides, list_decides}
-use Rattle.rules_compiler.proofs.Courses.{measures}
 use Rattle.rules_compiler.proofs.Courses.{skip_decides, then_decides}
-use Rattle.rules_compiler.proofs.TermEffects.{term_values}
 
 -- r6 has the number of a part, and r8 says whether it begins with a text
 pub record Asks (input : Input) (p : Part) (text : List ℕ) (s : State) : Type 0 where

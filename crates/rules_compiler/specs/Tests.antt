@@ -1,5 +1,5 @@
 -- The code of tests: r8 gets whether one holds.
-use Rattle.std.specs.Prelude.{ℕ, zero, suc, ◌+◌, ◌-◌, ◌*◌, ℤ, pos, Bool, ◌&&◌, nat_lt, nat_le, if◌then◌else◌}
+use Rattle.std.specs.Prelude.{ℕ, zero, suc, ◌+◌, ◌-◌, ◌*◌, ◌^◌, ℤ, pos, Bool, not, ◌&&◌, nat_lt, nat_le, if◌then◌else◌}
 use Rattle.std.specs.Prelude.{List, [], ◌∷◌, ◌++◌, length}
 use Rattle.machine_spec.specs.declared.instruction.Instruction.{Instruction}
 use Rattle.machine_spec.specs.declared.instruction.Instruction.TheVariants.{Load, JumpIf, Call}
@@ -11,6 +11,7 @@ use Rattle.machine_spec.specs.declared.operation.{Test.Test as Jumps}
 use Rattle.machine_spec.specs.declared.operation.Test.TheVariants as jumps
 use Rattle.rules.specs.declared.{rule.Part.Part, rule.Term.Term, rule.Comparison.Comparison, rule.Test.Test}
 use Rattle.rules.specs.declared.rule.Part.TheVariants as part
+use Rattle.rules.specs.declared.rule.Term.TheVariants as term
 use Rattle.rules.specs.declared.rule.Comparison.TheVariants as comparison
 use Rattle.rules.specs.declared.rule.Test.TheVariants as test
 use Rattle.rules_compiler.specs.declared.searches.TheConstants.{LOOKED_AT, OTHERS, PLACES}
@@ -18,6 +19,7 @@ use Rattle.rules_compiler.specs.declared.pieces.TheConstants.{ANSWER, PART, LENG
 use Rattle.rules_compiler.specs.declared.values.TheConstants.{SHORT}
 use Rattle.rules_compiler.specs.Code.{Code, Plain, Then, Unless}
 use Rattle.rules_compiler.specs.Pieces.{set, copy, change, number_code, text_code, part_code, measure}
+use Rattle.rules.specs.Meaning.{compares}
 use Rattle.rules_compiler.specs.Terms.{term_code}
 
 -- what the helper says of a part's length is a number
@@ -117,9 +119,27 @@ unfoldable pub comparing_code : Comparison → ℕ → Code
 comparing_code how number = Then (Plain (number_code 1 number))
     (Unless (test_of how) ANSWER (Register 1) (Plain (set TRUTH (pos 0) ∷ [])))
 
-unfoldable pub compare_code : Term → Comparison → ℕ → Code
-compare_code t how number = Then (term_code t)
+unfoldable pub term_compare_code : Term → Comparison → ℕ → Code
+term_compare_code t how number = Then (term_code t)
     (Unless jumps.Equal TRUTH (Immediate (pos 0)) (comparing_code how number))
+
+-- whether 0, the length of a null value's bytes, compares otherwise with a number that an instruction can hold
+abbrev pub is_plain : Comparison → ℕ → Bool
+is_plain how number = not (compares how 0 number) && nat_lt number (2 ^ 31)
+
+-- r8 gets whether the value's length passes a test against a number
+abbrev pub length_list : Jumps → ℤ → List Instruction
+length_list how number = set TRUTH (pos 1) ∷ JumpIf Bits64 how LENGTH (Immediate number) (pos 1) ∷ set TRUTH (pos 0) ∷ []
+
+-- the same as a comparison
+unfoldable pub value_length_code : Comparison → ℕ → Code
+value_length_code how number = Then (Plain (set TRUTH (pos 1) ∷ []))
+    (Unless (test_of how) LENGTH (Immediate (pos number)) (Plain (set TRUTH (pos 0) ∷ [])))
+
+unfoldable pub compare_code : Term → Comparison → ℕ → Code
+compare_code (term.Length part.Value) how number =
+    if is_plain how number then value_length_code how number else term_compare_code (term.Length part.Value) how number
+compare_code t how number = term_compare_code t how number
 
 unfoldable pub test_code : Test → Code
 test_code (test.Null p) = length_test_code p (pos 1)

@@ -14,7 +14,7 @@ use crate::pieces::{
 };
 use crate::searches::put_has;
 use crate::terms::put_term;
-use crate::values::{is_short, put_value_test};
+use crate::values::{is_plain, is_short, put_value_length, put_value_test};
 use machine_spec::{Instruction, Operation, Source, Width};
 use rules::{Comparison, Part, Term, Test, Text};
 use std::alloc::{AllocError, Global};
@@ -135,7 +135,26 @@ fn put_comparing(
     ])
 }
 
-#[tactic(auto, unfolding(crate::specs::Tests::compare_code))]
+#[tactic(auto, unfolding(crate::specs::Tests::term_compare_code))]
+fn put_term_compare(
+    alloc: Global,
+    code: &mut Vec<Instruction>,
+    term: &Term,
+    how: Comparison,
+    number: u64,
+) -> Result<(), Refusal>
+    requires { FitsTerm FitsText term.now }
+    ensures code { OnOk result (code.new.items ≡ code.old.items ++ instructions (definitions.term_compare_code term.now how number)) }
+    ensures long { IfErr result (IsTooLong (instructions (definitions.term_compare_code term.now how number))) }
+{
+    put_term(code, term)?;
+    let mut block = Vec::new(alloc);
+    put_comparing(&mut block, how, number)?;
+    put_unless(code, machine_spec::Test::Equal, &block)
+}
+
+/// Whether a term compares so with a number. The value's length is at hand.
+#[tactic(auto, unfolding(crate::specs::Tests::compare_code, crate::specs::Tests::value_length_code))]
 fn put_compare(
     alloc: Global,
     code: &mut Vec<Instruction>,
@@ -147,10 +166,19 @@ fn put_compare(
     ensures code { OnOk result (code.new.items ≡ code.old.items ++ instructions (definitions.compare_code term.now how number)) }
     ensures long { IfErr result (IsTooLong (instructions (definitions.compare_code term.now how number))) }
 {
-    put_term(code, term)?;
-    let mut block = Vec::new(alloc);
-    put_comparing(&mut block, how, number)?;
-    put_unless(code, machine_spec::Test::Equal, &block)
+    match term {
+        Term::Length(Part::Value) if is_plain(how, number) => {
+            put_value_length(code, test_of(how), number as i32)?;
+            Ok(())
+        }
+        Term::Length(_)
+        | Term::Number(_, _, _)
+        | Term::Decimal(_, _, _)
+        | Term::Offset
+        | Term::Timestamp
+        | Term::Partition
+        | Term::Headers => put_term_compare(alloc, code, term, how, number),
+    }
 }
 
 /// A test.

@@ -9,7 +9,7 @@ ghost use Rattle.rules_compiler.specs.Tests as definitions;
 use crate::loads::{layout_size, ordered, size_of};
 use crate::pieces::{ANSWER, LENGTH, TRUTH, VALUE, set, skip_if};
 use machine_spec::{Extension, Instruction, Size, Test};
-use rules::{Layout, Text};
+use rules::{Comparison, Layout, Text};
 use std::alloc::AllocError;
 
 /// The longest text that is compared byte by byte.
@@ -72,6 +72,36 @@ pub fn put_value_test(code: &mut Vec<Instruction>, text: &Text, how: Test) -> Re
         skip_if(how, LENGTH, size as i32, (2 * size + 1) as i16),
     ])?;
     put_match(code, &text.bytes)
+}
+
+/// Whether 0, the length of a null value's bytes, compares otherwise with a number that an instruction can hold.
+pub fn is_plain(how: Comparison, number: u64) -> bool
+    ensures { result ≡ definitions.is_plain how number }
+{
+    let is_so_of_none = match how {
+        Comparison::Equal => 0 == number,
+        Comparison::NotEqual => 0 != number,
+        Comparison::Less => 0 < number,
+        Comparison::LessOrEqual => true,
+        Comparison::Greater => false,
+        Comparison::GreaterOrEqual => number == 0,
+    };
+    !is_so_of_none && number < 0x8000_0000
+}
+
+/// Whether the value's length passes a test against a number.
+pub fn put_value_length(
+    code: &mut Vec<Instruction>,
+    how: Test,
+    number: i32,
+) -> Result<(), AllocError>
+    ensures { OnOk result (code.new.items ≡ code.old.items ++ definitions.length_list how number) }
+{
+    code.extend_from_slice(&[
+        set(TRUTH, 1),
+        skip_if(how, LENGTH, number, 1),
+        set(TRUTH, 0),
+    ])
 }
 
 /// The number that bytes of the value are.
