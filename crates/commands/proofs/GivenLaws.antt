@@ -1,5 +1,5 @@
 -- The programs that files give, and what calls do with them.
-use Rattle.std.proofs.Common.{◌≡◌, ◌⊎◌, ℕ, List, Option, Some, Result, Ok, Err, refl, inl, inr}
+use Rattle.std.proofs.Common.{◌≡◌, ◌⊎◌, ℕ, Bool, List, Option, Some, Result, Ok, Err, sym, subst, inl, inr}
 use Rattle.machine_spec.specs.{declared.helper.Table.Table, Image.Program}
 use Rattle.program_file.specs.declared.{fault.FileFault.FileFault, choice.GivenProgram.GivenProgram}
 use Rattle.program_file.specs.declared.fault.FileFault.TheVariants as file
@@ -7,14 +7,14 @@ use Rattle.program_file.specs.Choice.{given_program, program_in}
 use Rattle.wire_spec.specs.Memory.{IsFault}
 use Rattle.script.specs.declared.command.FileWord.{FileWord}
 use Rattle.script.specs.declared.command.FileWord.TheVariants.{File}
-use Rattle.commands.specs.declared.{given.Ungiven.Ungiven, halts.Halt.Halt, host.Host.Host, stop.Stop.Stop}
-use Rattle.commands.specs.declared.status.Status.{Status}
+use Rattle.commands.specs.declared.{given.Ungiven.Ungiven, halts.Halt.Halt, halts.ProgramFault.ProgramFault}
+use Rattle.commands.specs.declared.{host.Host.Host, status.Status.Status, stop.Stop.Stop}
 use Rattle.commands.specs.declared.given.Ungiven.TheVariants as ungiven
 use Rattle.commands.specs.declared.halts.Halt.TheVariants as halt
-use Rattle.commands.specs.declared.reading.Unread.TheVariants as unread
 use Rattle.commands.specs.declared.stop.Stop.TheVariants as stop
-use Rattle.commands.specs.FileTransforms.{IsLoaded, IsUngiven, LoadsGiven}
-use Rattle.commands.specs.Given.{AreBytesIn, Gives, IsGiven, IsGivenBy, IsTold, OfGiven}
+use Rattle.commands.specs.FileTransforms.{IsGivenTo, IsLoaded, IsUngiven, IsUnread, LoadsGiven}
+use Rattle.commands.specs.Given.{AreBytesIn, Gives, GivesAs, GivesNamed, IsGiven, IsGivenBy, IsTold, OfGiven}
+use Rattle.commands.specs.Given.{is_rules_name}
 use Rattle.commands.specs.{Hosts.KeepsInputs, Hosts.PrintsOfFile, Images.first_bytes, Sessions.LoadFails}
 use Rattle.commands.specs.Stops.{stop_of_file, EndsFor}
 use Rattle.broker.specs.Deployments.{LoadIs}
@@ -58,29 +58,26 @@ module _ {F I O E : Type 0} (bytes : F → List ℕ → Option (List ℕ)) (cont
 
 -- ---- a transform
 
-pub loads_given : (files : List ℕ → Option (List ℕ)) (name : List ℕ) (named : Option Table) (given : GivenProgram)
-    (result : Result Program Halt) → Gives files (File name) named (Ok given) → IsLoaded (program_in given) result →
-    (known : List ℕ) → files name ≡ Some known → LoadsGiven (given_program named (first_bytes known)) result
-loads_given files name named given result gives loaded known there =
-    rw (known_gives files name named (Ok given) known gives there) loaded
+pub unread : (Gives : Result GivenProgram ProgramFault → Type 0) (halted : Halt) → IsUnread halted →
+    IsUngiven Gives halted
+unread Gives (halt.Program fault) is = absurd is
+unread Gives (halt.File word) is = tt
+unread Gives halt.Memory is = tt
+unread Gives (halt.Image fault text) is = absurd is
+unread Gives (halt.Batch refusal) is = absurd is
+unread Gives halt.Full is = absurd is
 
-unread_file : (said : Result GivenProgram FileFault) → LoadsGiven said (Err (halt.File 0))
-unread_file (Ok given) = tt
-unread_file (Err fault) = tt
+-- by the file's name
+pub of_name : (is_rules : Bool) (name : List ℕ) (named : Option Table) (bytes : List ℕ)
+    (result : Result GivenProgram Halt) → is_rules_name name ≡ is_rules →
+    IsGivenTo (GivesAs is_rules named bytes) result → IsGivenTo (GivesNamed name named bytes) result
+of_name is_rules name named bytes result is given =
+    subst (λ (rules : Bool). IsGivenTo (GivesAs rules named bytes) result) (sym is) given
 
-unread_memory : (said : Result GivenProgram FileFault) → LoadsGiven said (Err halt.Memory)
-unread_memory (Ok given) = tt
-unread_memory (Err fault) = tt
-
-pub loads_none : (files : List ℕ → Option (List ℕ)) (name : List ℕ) (named : Option Table) (why : Ungiven)
-    (halted : Halt) → IsGiven files name named (Err why) → IsUngiven why halted → (known : List ℕ) →
-    files name ≡ Some known → LoadsGiven (given_program named (first_bytes known)) (Err halted)
-loads_none files name named (ungiven.File fault) halted gives same known there =
-    rw (same, known_gives files name named (Err fault) known gives there) refl
-loads_none files name named (ungiven.Unread unread.File) halted gives same known there =
-    rw same (unread_file (given_program named (first_bytes known)))
-loads_none files name named (ungiven.Unread unread.Memory) halted gives same known there =
-    rw same (unread_memory (given_program named (first_bytes known)))
+pub loads : (Gives : Result GivenProgram ProgramFault → Type 0) (given : GivenProgram) (result : Result Program Halt) →
+    Gives (Ok given) → IsLoaded (program_in given) result → LoadsGiven Gives result
+loads Gives given (Ok program) gives loaded = (given, gives, loaded)
+loads Gives given (Err halted) gives refused = inr (given, gives, refused)
 
 -- ---- a script's load
 

@@ -1,7 +1,6 @@
 -- What `rule` does with a text of rules.
-use Rattle.std.specs.Prelude.{◌≡◌, ◌⊎◌, ℕ, List, Option, Ok, Err, IfSome, ⊤}
+use Rattle.std.specs.Prelude.{◌≡◌, ◌⊎◌, ℕ, List, Option, Err, IfSome}
 use Rattle.program_file.specs.{declared.file.ProgramFile.ProgramFile, Spelling.spelling}
-use Rattle.rules.specs.{declared.fault.RuleFault.RuleFault, Lines.Line, Reading.rules_of}
 use Rattle.rules_compiler.specs.Programs.{IsTextProgram, CompilesText}
 use Rattle.rules_compiler.specs.declared.text.TextFault.{TextFault}
 use Rattle.rules_compiler.specs.declared.text.TextFault.TheVariants as fault
@@ -14,10 +13,16 @@ status_of_text (fault.Line why) = exit.Refused
 status_of_text (fault.Rules why) = exit.Refused
 status_of_text fault.Memory = exit.Failed
 
--- A call that writes a program file ends with this status: the file has the program, or a file or memory failed.
-abbrev pub WritesFile : ProgramFile → Status → (after : Option (List ℕ)) → Type 0
-WritesFile file status after =
-    (status ≡ exit.Failed) ⊎ ((status ≡ exit.Done) × IfSome after (λ bytes. bytes ≡ spelling file))
+-- bytes are those of the program file of a text's rules
+pub record IsFileOf (text bytes : List ℕ) : Type 0 where
+  pub file : ProgramFile
+  pub of_text : IsTextProgram text file
+  pub bytes_are : bytes ≡ spelling file
+
+-- A call that writes bytes to a file ends with this status: the file has them, or a file or memory failed.
+abbrev pub WritesFile : List ℕ → Status → (after : Option (List ℕ)) → Type 0
+WritesFile bytes status after =
+    (status ≡ exit.Failed) ⊎ ((status ≡ exit.Done) × IfSome after (λ known. known ≡ bytes))
 
 -- the program of a text's rules was written
 pub record HasProgram (text : List ℕ) (status : Status) (after : Option (List ℕ)) : Type 0 where

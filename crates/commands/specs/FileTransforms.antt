@@ -5,8 +5,8 @@ use Rattle.std.specs.List.{concat}
 use Rattle.wire_spec.specs.{declared.record.Batch.Batch, declared.fault.BatchFault.BatchFault, BatchReading.batch_at}
 use Rattle.wire_spec.specs.declared.limits.TheConstants.{TIMESTAMP_END, MAX_RECORDS}
 use Rattle.machine_spec.specs.{Image.Program, declared.helper.Table.Table}
-use Rattle.program_file.specs.declared.{fault.FileFault.FileFault, choice.GivenProgram.GivenProgram}
-use Rattle.program_file.specs.Choice.{given_program, program_in}
+use Rattle.program_file.specs.declared.choice.GivenProgram.{GivenProgram}
+use Rattle.program_file.specs.Choice.{program_in}
 use Rattle.verifier_spec.specs.{Loading.IsAccepted, Loading.IsRefusedWith, declared.fault.LoadFault.LoadFault}
 use Rattle.log_spec.specs.{declared.row.Row.Row, Logs.IsRowsOf}
 use Rattle.batch.specs.Batches.{AreBatches}
@@ -20,12 +20,10 @@ use Rattle.transform.specs.declared.outlet.OutletFault.TheVariants as outlet
 use Rattle.transform.specs.Outlets as outlets
 use Rattle.transform.specs.Transforms.{log_of, output_at, records_of}
 use Rattle.script.specs.Words.{word_at}
-use Rattle.commands.specs.declared.{given.Ungiven.Ungiven, halts.Halt.Halt, status.Status.Status}
-use Rattle.commands.specs.declared.given.Ungiven.TheVariants as ungiven
-use Rattle.commands.specs.declared.reading.Unread.TheVariants as unread
+use Rattle.commands.specs.declared.{halts.Halt.Halt, halts.ProgramFault.ProgramFault, status.Status.Status}
 use Rattle.commands.specs.declared.halts.Halt.TheVariants as halt
 use Rattle.commands.specs.declared.status.Status.TheVariants.{Done, Refused, Failed}
-use Rattle.commands.specs.{Files.KeepsAll, Images.first_bytes, Listings.source_of}
+use Rattle.commands.specs.{Files.KeepsAll, Given.GivesNamed, Listings.source_of}
 use Rattle.commands.specs.Stops as stops
 
 -- ---- what a file has
@@ -175,10 +173,16 @@ TransformsAs program bytes outputs status files =
     ((fault : LoadFault) × IsRefusedWith program fault × (status ≡ Refused))
     ⊎ StreamsAs program bytes outputs status files
 
--- The same of what a file gives. A program file that is refused has its status, and `Failed` where memory ran out.
-abbrev pub TransformsGiven : Result GivenProgram FileFault → List ℕ → ℕ → Status → (ℕ → Option (List ℕ)) → Type 0
-TransformsGiven (Ok given) bytes outputs status files = TransformsAs (program_in given) bytes outputs status files
-TransformsGiven (Err fault) bytes outputs status files = (status ≡ Refused) ⊎ (status ≡ Failed)
+-- The same of what a file gives.
+abbrev pub TransformsSaid : Result GivenProgram ProgramFault → List ℕ → ℕ → Status → (ℕ → Option (List ℕ)) → Type 0
+TransformsSaid (Ok given) bytes outputs status files = TransformsAs (program_in given) bytes outputs status files
+TransformsSaid (Err fault) bytes outputs status files = status ≡ Refused
+
+-- The same of what a file may give; or the status is `Failed`, where a file or memory failed.
+abbrev pub TransformsGiven : (Result GivenProgram ProgramFault → Type 0) → List ℕ → ℕ → Status →
+    (ℕ → Option (List ℕ)) → Type 0
+TransformsGiven Gives bytes outputs status files = (status ≡ Failed)
+    ⊎ ((said : Result GivenProgram ProgramFault) × Gives said × TransformsSaid said bytes outputs status files)
 
 -- What a call does whose words name a program, a file of batches and a file for each output partition, and perhaps a
 -- helper table: files had these bytes before and have those after, and standard input these.
@@ -186,23 +190,24 @@ abbrev pub CallWrites : Option Table → List (List ℕ) → Option (List ℕ) �
     (List ℕ → Option (List ℕ)) → Status → Type 0
 CallWrites named names stdin before after status = (image bytes : List ℕ) → before (word_at names 0) ≡ Some image →
     source_of (word_at names 1) stdin (before (word_at names 1)) ≡ Some bytes →
-    TransformsGiven (given_program named (first_bytes image)) bytes (length names - 2) status
+    TransformsGiven (GivesNamed (word_at names 0) named image) bytes (length names - 2) status
     (λ output. after (word_at names (output + 2)))
 
--- However a transform by what a file gives ends, this holds of each output partition's file. It has what it had where
--- the program file is refused.
-abbrev pub LeavesGiven : Result GivenProgram FileFault → List ℕ → List (List ℕ) →
+-- However a transform by what a file may give ends, each output partition's file has what it had; or the file gives a
+-- program, by which this holds of each of them.
+abbrev pub LeavesGiven : (Result GivenProgram ProgramFault → Type 0) → List ℕ → List (List ℕ) →
     (before after : List ℕ → Option (List ℕ)) → Type 0
-LeavesGiven (Ok given) bytes names before after = Leaves (program_in given) bytes names before after
-LeavesGiven (Err fault) bytes names before after = (output : ℕ) → output + 2 < length names →
-    after (word_at names (output + 2)) ≡ before (word_at names (output + 2))
+LeavesGiven Gives bytes names before after =
+    ((output : ℕ) → output + 2 < length names →
+    after (word_at names (output + 2)) ≡ before (word_at names (output + 2)))
+    ⊎ ((given : GivenProgram) × Gives (Ok given) × Leaves (program_in given) bytes names before after)
 
 -- however such a call ends, each output partition's file has what it had or whole batches of its rows
 abbrev pub CallLeaves : Option Table → List (List ℕ) → Option (List ℕ) → (List ℕ → Option (List ℕ)) →
     (List ℕ → Option (List ℕ)) → Type 0
 CallLeaves named names stdin before after = (image bytes : List ℕ) → before (word_at names 0) ≡ Some image →
     source_of (word_at names 1) stdin (before (word_at names 1)) ≡ Some bytes →
-    LeavesGiven (given_program named (first_bytes image)) bytes names before after
+    LeavesGiven (GivesNamed (word_at names 0) named image) bytes names before after
 
 -- the program's file and that of the batches have the bytes that they had
 abbrev pub KeepsSources : List (List ℕ) → (before after : List ℕ → Option (List ℕ)) → Type 0
@@ -213,15 +218,11 @@ abbrev pub KeepsOrParts : (leads : List ℕ → List ℕ) → List (List ℕ) �
     Type 0
 KeepsOrParts leads names before after = KeepsAll before after ⊎ AreApart leads names
 
--- what a file gives is refused: as a program file, or by its image
-abbrev pub IsRefusedGiven : Result GivenProgram FileFault → Type 0
-IsRefusedGiven (Ok given) = (fault : LoadFault) × IsRefusedWith (program_in given) fault
-IsRefusedGiven (Err fault) = ⊤
-
--- where the program that the first word names is refused, all files have the bytes that they had
-abbrev pub KeepsIfRefused : Option Table → List (List ℕ) → (before after : List ℕ → Option (List ℕ)) → Type 0
-KeepsIfRefused named names before after = (image : List ℕ) → before (word_at names 0) ≡ Some image →
-    IsRefusedGiven (given_program named (first_bytes image)) → KeepsAll before after
+-- all files have the bytes that they had, unless that of the first word gives a program that is accepted
+abbrev pub KeepsUnlessAccepted : Option Table → List (List ℕ) → (before after : List ℕ → Option (List ℕ)) → Type 0
+KeepsUnlessAccepted named names before after = (image : List ℕ) → before (word_at names 0) ≡ Some image →
+    KeepsAll before after ⊎ ((given : GivenProgram) × GivesNamed (word_at names 0) named image (Ok given)
+    × IsAccepted (program_in given))
 
 -- ---- on the way
 
@@ -249,22 +250,34 @@ abbrev pub IsLoaded : Program → Result Program Halt → Type 0
 IsLoaded asked (Ok program) = (program ≡ asked) × IsAccepted asked
 IsLoaded asked (Err halted) = IsUnloaded asked halted
 
--- why a transform ends whose file of a program gives none
-abbrev pub IsUngiven : Ungiven → Halt → Type 0
-IsUngiven (ungiven.File fault) halted = halted ≡ halt.Program fault
-IsUngiven (ungiven.Unread unread.File) halted = halted ≡ halt.File 0
-IsUngiven (ungiven.Unread unread.Memory) halted = halted ≡ halt.Memory
+-- a file can't be read, or memory ran out
+abbrev pub IsUnread : Halt → Type 0
+IsUnread (halt.Program fault) = ⊥
+IsUnread (halt.File word) = ⊤
+IsUnread halt.Memory = ⊤
+IsUnread (halt.Image fault text) = ⊥
+IsUnread (halt.Batch refusal) = ⊥
+IsUnread halt.Full = ⊥
 
--- The program that a file gives is loaded, or it is known why there is none.
-abbrev pub LoadsGiven : Result GivenProgram FileFault → Result Program Halt → Type 0
-LoadsGiven (Ok given) result = IsLoaded (program_in given) result
-LoadsGiven (Err fault) (Ok program) = ⊥
-LoadsGiven (Err fault) (Err (halt.Program reported)) = reported ≡ fault
-LoadsGiven (Err fault) (Err (halt.File word)) = ⊤
-LoadsGiven (Err fault) (Err halt.Memory) = ⊤
-LoadsGiven (Err fault) (Err (halt.Image reported text)) = ⊥
-LoadsGiven (Err fault) (Err (halt.Batch refusal)) = ⊥
-LoadsGiven (Err fault) (Err halt.Full) = ⊥
+-- Why a transform ends whose file gives no program. Nothing is said where it can't be read, or memory ran out.
+abbrev pub IsUngiven : (Result GivenProgram ProgramFault → Type 0) → Halt → Type 0
+IsUngiven Gives (halt.Program fault) = Gives (Err fault)
+IsUngiven Gives (halt.File word) = ⊤
+IsUngiven Gives halt.Memory = ⊤
+IsUngiven Gives (halt.Image fault text) = ⊥
+IsUngiven Gives (halt.Batch refusal) = ⊥
+IsUngiven Gives halt.Full = ⊥
+
+-- the program that a file gives, or why a transform ends without one
+abbrev pub IsGivenTo : (Result GivenProgram ProgramFault → Type 0) → Result GivenProgram Halt → Type 0
+IsGivenTo Gives (Ok given) = Gives (Ok given)
+IsGivenTo Gives (Err halted) = IsUngiven Gives halted
+
+-- the program that a file gives is loaded, or it is known why none is
+abbrev pub LoadsGiven : (Result GivenProgram ProgramFault → Type 0) → Result Program Halt → Type 0
+LoadsGiven Gives (Ok program) = (given : GivenProgram) × Gives (Ok given) × IsLoaded (program_in given) (Ok program)
+LoadsGiven Gives (Err halted) = IsUngiven Gives halted
+    ⊎ ((given : GivenProgram) × Gives (Ok given) × IsUnloaded (program_in given) halted)
 
 -- an output partition before its first row, whose writer tells that it has nothing
 abbrev pub IsFresh : outlets.Outflow → Type 0

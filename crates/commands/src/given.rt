@@ -24,7 +24,11 @@ pub enum Ungiven {
 }
 
 /// The program that bytes are, by the helper table that is named, if one is.
-fn given_of(alloc: Global, bytes: Vec<u8>, named: Option<Table>) -> Result<GivenProgram, Ungiven>
+pub(crate) fn given_of(
+    alloc: Global,
+    bytes: Vec<u8>,
+    named: Option<Table>,
+) -> Result<GivenProgram, Ungiven>
     ensures { IsGivenBy (given_program named bytes.items) result }
 {
     let Ok(bytes) = shared(bytes) else {

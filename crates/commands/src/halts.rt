@@ -8,12 +8,13 @@ ghost use Rattle.commands.specs.FileTransforms.{status_of_ended};
 use crate::listing::refusal_text;
 use crate::reading::{Unread, cause_of};
 use crate::status::Status;
-use crate::telling::{MEMORY, file_text, tell_text};
+use crate::telling::{MEMORY, file_text, rules_text, tell_text};
 use batch::BatchFault;
 use batch_reader::{BatchReader, Position, ReadFault};
 use batch_text::NoBatch;
 use bytes::Bytes;
 use program_file::FileFault;
+use rules_compiler::TextFault;
 use std::alloc::{AllocError, Global};
 use std::io;
 use std::io::{Read, Write};
@@ -30,13 +31,22 @@ pub(crate) const FIRST_OUTPUT: usize = 2;
 const CURE: &str =
     "docs/guide/formats.md: examples/kafka/plain makes such batches klog's, or says why it can't\n";
 
+/// Why the file of a transform's program gives none.
+#[derive(Clone, Copy)]
+pub(crate) enum ProgramFault {
+    /// It is a program file that is refused, or a text of rules whose program has another helper table than is named.
+    File(FileFault),
+    /// It is a text of rules that is refused.
+    Rules(TextFault),
+}
+
 /// Why a transform ends early.
 #[derive(Drop)]
 pub(crate) enum Halt {
     /// The image is no program, or the verifier refuses it. Fields: the fault, and what is said of it.
     Image(LoadFault, String),
-    /// The program file is refused.
-    Program(FileFault),
+    /// The program file or the text of rules is refused.
+    Program(ProgramFault),
     /// The bytes that follow begin with no batch, or end inside one.
     Batch(NoBatch),
     /// The offsets of records or rows are used up.
@@ -157,11 +167,19 @@ pub(crate) fn halted(ending: Ending) -> Result<(), Halt>
     }
 }
 
+/// Why the file of a transform's program gives none.
+fn program_text(alloc: Global, fault: ProgramFault) -> Result<String, AllocError> {
+    match fault {
+        ProgramFault::File(fault) => format!(in alloc; "{fault}\n"),
+        ProgramFault::Rules(fault) => rules_text(alloc, fault),
+    }
+}
+
 /// What is said of a transform that ended early.
 fn halt_text(alloc: Global, words: &[String], halt: &Halt) -> Result<String, AllocError> {
     match halt {
         Halt::Image(_, text) => String::from_str(alloc, text.as_str()),
-        Halt::Program(fault) => format!(in alloc; "{fault}\n"),
+        Halt::Program(fault) => program_text(alloc, *fault),
         Halt::Batch(refusal) => batch_text(alloc, refusal),
         Halt::Full => String::from_str(alloc, "full\n"),
         Halt::File(word) => file_text(alloc, name_or_none(words, *word)),

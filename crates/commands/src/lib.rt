@@ -20,6 +20,7 @@ mod halts;
 mod host;
 mod image;
 mod listing;
+mod loading;
 mod one_file;
 mod output_files;
 mod printing;

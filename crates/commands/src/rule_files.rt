@@ -1,33 +1,42 @@
 //! Program files of texts of rules.
 
-ghost use Rattle.std.specs.Prelude.{◌≡◌, ◌≢◌, ◌⊎◌, ℕ, List, Some, true, IsTrue, IfOk};
+ghost use Rattle.std.specs.Prelude.{◌≡◌, ◌≢◌, ◌⊎◌, ℕ, List, Some, Err, true, IfOk, IfErr};
+ghost use Rattle.rules_compiler.specs.Programs.{CompilesText};
 ghost use Rattle.commands.specs.declared.status.Status.TheVariants as exit;
-ghost use Rattle.commands.specs.Compiled.{WritesProgram, status_of_text, WritesFile};
+ghost use Rattle.commands.specs.Compiled.{IsFileOf, WritesProgram, status_of_text, WritesFile};
 ghost use Rattle.commands.specs.Files.{KeepsAll, KeepsBut};
-ghost use Rattle.program_file.specs.Spelling.{fits, spelling};
 
 use crate::asm::{read_text, write_image};
 use crate::files::Files;
 use crate::status::Status;
-use crate::telling::{tell_memory, tell_text, tell_unread};
-use program_file::ProgramFile;
-use rules::RuleFault;
+use crate::telling::{rules_text, tell_text, tell_unread};
+use program_file::write;
 use rules_compiler::{TextFault, compile_text};
 use std::alloc::Global;
 use std::io::Write;
 
-/// Says at which line and column a text of rules can't go on, and answers the status.
-fn tell_line<E: Write>(alloc: Global, stderr: &mut E, fault: RuleFault) -> Status
-    ensures { (result ≡ exit.Refused) ⊎ (result ≡ exit.Failed) }
+/// The bytes of the program file of a text's rules.
+pub(crate) fn file_of_rules(alloc: Global, text: &[u8]) -> Result<Vec<u8>, TextFault>
+    ensures file { IfOk result (λ bytes. IsFileOf text.now bytes.items) }
+    ensures fault { IfErr result (λ why. CompilesText text.now (Err why)) }
 {
-    match fault.spot() {
-        Some(spot) => {
-            let line = spot.line;
-            let column = spot.column;
-            let text = format!(in alloc; "line {line}: {fault} at column {column}\n");
-            tell_text(stderr, text, Status::Refused)
-        }
-        None => tell_memory(stderr),
+    let file = match compile_text(alloc, text) {
+        Ok(file) => file,
+        Err(fault) => return Err(fault),
+    };
+    match write(alloc, &file) {
+        Ok(bytes) => Ok(bytes),
+        Err(_) => Err(TextFault::Memory),
+    }
+}
+
+/// The status of a text of rules that gives no program.
+fn status_of(fault: TextFault) -> Status
+    ensures { result ≡ status_of_text fault }
+{
+    match fault {
+        TextFault::Line(_) | TextFault::Rules(_) => Status::Refused,
+        TextFault::Memory => Status::Failed,
     }
 }
 
@@ -35,34 +44,25 @@ fn tell_line<E: Write>(alloc: Global, stderr: &mut E, fault: RuleFault) -> Statu
 fn tell_fault<E: Write>(alloc: Global, stderr: &mut E, fault: TextFault) -> Status
     ensures { (result ≡ status_of_text fault) ⊎ (result ≡ exit.Failed) }
 {
-    match fault {
-        TextFault::Line(fault) => tell_line(alloc, stderr, fault),
-        TextFault::Rules(fault) => {
-            tell_text(stderr, format!(in alloc; "{fault}\n"), Status::Refused)
-        }
-        TextFault::Memory => tell_memory(stderr),
-    }
+    tell_text(stderr, rules_text(alloc, fault), status_of(fault))
 }
 
-/// Writes a program file, and answers the status. `text` is the name of the file that its rules are from.
+/// Writes the bytes of a program file to a file, and answers the status. `text` is the name of the file that its rules are
+/// from.
 fn put_file<F: Files, E: Write>(
     alloc: Global,
     files: &mut F,
     stderr: &mut E,
     text: &str,
     name: &str,
-    file: &ProgramFile,
+    bytes: &[u8],
 ) -> Status
-    requires { IsTrue (fits file.now) }
-    ensures written { WritesFile file.now result (F.bytes files.new name.now) }
+    ensures written { WritesFile bytes.now result (F.bytes files.new name.now) }
     ensures kept { KeepsBut F.leads name.now (F.bytes files.old) (F.bytes files.new) }
     ensures failed { result ≢ exit.Done → KeepsAll (F.bytes files.old) (F.bytes files.new) }
     ensures apart { F.tells ≡ true → result ≡ exit.Done → F.leads text.now ≢ F.leads name.now }
 {
-    let Ok(bytes) = program_file::write(alloc, file) else {
-        return tell_memory(stderr);
-    };
-    match write_image(files, text, name, &bytes) {
+    match write_image(files, text, name, bytes) {
         Ok(()) => Status::Done,
         Err(unread) => tell_unread(alloc, stderr, name, unread),
     }
@@ -84,8 +84,8 @@ fn compile_rules<F: Files, E: Write>(
     ensures failed { result ≢ exit.Done → KeepsAll (F.bytes files.old) (F.bytes files.new) }
     ensures apart { F.tells ≡ true → result ≡ exit.Done → F.leads text.now ≢ F.leads name.now }
 {
-    match compile_text(alloc, source.as_bytes()) {
-        Ok(file) => put_file(alloc, files, stderr, text, name, &file),
+    match file_of_rules(alloc, source.as_bytes()) {
+        Ok(bytes) => put_file(alloc, files, stderr, text, name, &bytes),
         Err(fault) => tell_fault(alloc, stderr, fault),
     }
 }

@@ -13,6 +13,8 @@ use crate::run::Ended;
 use crate::status::Status;
 use crate::stop::{Stop, status_of, unwritten};
 use program_file::GivenProgram;
+use rules::RuleFault;
+use rules_compiler::TextFault;
 use std::alloc::{AllocError, Global};
 use std::fmt::Display;
 use std::io::Write;
@@ -58,6 +60,27 @@ pub(crate) fn tell_text<E: Write>(
 /// A line, and why it is refused.
 fn line_text<D: Display>(alloc: Global, line: u64, fault: &D) -> Result<String, AllocError> {
     format!(in alloc; "line {line}: {fault}\n")
+}
+
+/// At which line and column a text of rules can't go on.
+fn rule_text(alloc: Global, fault: RuleFault) -> Result<String, AllocError> {
+    match fault.spot() {
+        Some(spot) => {
+            let line = spot.line;
+            let column = spot.column;
+            format!(in alloc; "line {line}: {fault} at column {column}\n")
+        }
+        None => String::from_str(alloc, MEMORY),
+    }
+}
+
+/// Why a text of rules gives no program.
+pub(crate) fn rules_text(alloc: Global, fault: TextFault) -> Result<String, AllocError> {
+    match fault {
+        TextFault::Line(fault) => rule_text(alloc, fault),
+        TextFault::Rules(fault) => format!(in alloc; "{fault}\n"),
+        TextFault::Memory => String::from_str(alloc, MEMORY),
+    }
 }
 
 /// What the end of a script says on standard error.

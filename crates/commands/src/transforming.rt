@@ -1,97 +1,37 @@
 //! Record batches of a file through a program, into files.
 
 ghost use Rattle.std.specs.Prelude.{◌≡◌, ◌≤◌, ◌+◌, ◌⊎◌, ℕ, List, [], Some, true, length, IfErr, OnOk};
-ghost use Rattle.machine_spec.specs.Image.{Program};
-ghost use Rattle.program_file.specs.Choice.{given_program, program_in};
-ghost use Rattle.annotate.specs.Loads.{FaultIs};
 ghost use Rattle.batch.specs.Streams.{Open};
 ghost use Rattle.batch_reader.specs.Readings.{IsOpen, inlet, none_given};
 ghost use Rattle.transform.specs.Streams.{TransformsAll};
 ghost use Rattle.script.specs.Words.{word_at};
 ghost use Rattle.command_line.specs.Calls.{names_of};
 ghost use Rattle.commands.specs.declared.status.Status.TheVariants.{Failed};
-ghost use Rattle.commands.specs.FileTransforms.{KeepsOthers, KeepsIfRefused, KeepsOrParts, KeepsSources, is_after_image};
+ghost use Rattle.commands.specs.FileTransforms.{KeepsOthers, KeepsUnlessAccepted, KeepsOrParts, KeepsSources, is_after_image};
 ghost use Rattle.commands.specs.Files.{KeepsAll};
-ghost use Rattle.commands.specs.FileTransforms.{Streams, CallWrites, CallLeaves, IsLoaded, IsUnloaded, IsUngiven, LoadsGiven, HaveWritten};
+ghost use Rattle.commands.specs.FileTransforms.{Streams, CallWrites, CallLeaves, HaveWritten};
 ghost use Rattle.commands.specs.FileTransforms.{AreApart, EndsFiles, keeps_rows, status_of, status_of_ended, status_of_halt};
-ghost use Rattle.commands.specs.Images.{first_bytes};
 ghost use Rattle.commands.specs.Listings.{source_of};
 
 use crate::counting::{counts_text, say_counts};
-use crate::explaining::refused_text;
 use crate::files::Files;
-use crate::given::{Ungiven, read_program};
 use crate::halts::{Ending, Halt, INPUT, ending_of, halted, tell_halt, unused};
 use crate::host::Host;
-use crate::image::{Refused, refusal_of};
+use crate::loading::load_file;
 use crate::output_files::{begin_all, close_all, name_at};
 use crate::progress::Progress;
-use crate::reading::Unread;
 use crate::status::Status;
 use crate::usage::tell_usage;
 use batch_reader::BatchReader;
 use log_item::Program;
 use log_spec::MAX_PARTITIONS;
 use machine_spec::Table;
-use program_file::GivenProgram;
 use std::alloc::Global;
 use std::io::{Read, Write};
 use transform::{
     OutletFault, StreamFault, Transform, TransformFault, rows_of_a_log, transform_watched,
 };
-use verifier_spec::LoadFault;
 use wire_spec::MAX_PIECE;
-
-/// The program that a file gives.
-fn program_of(alloc: Global, given: &GivenProgram) -> Result<Program, Halt>
-    ensures { IsLoaded (program_in given.now) result }
-{
-    match Program::new(alloc, &given.image, given.table) {
-        Ok(program) => Ok(program),
-        Err(fault) => Err(unloaded(alloc, given, fault)),
-    }
-}
-
-/// Why a transform ends whose image has no program.
-fn unloaded(alloc: Global, given: &GivenProgram, fault: LoadFault) -> Halt
-    ensures { (program : Program) → FaultIs program fault → IsUnloaded program result }
-{
-    match refusal_of(fault) {
-        Refused::Image(fault) => match refused_text(alloc, given, fault) {
-            Ok(text) => Halt::Image(fault, text),
-            Err(_) => Halt::Memory,
-        },
-        Refused::Memory => Halt::Memory,
-    }
-}
-
-/// Why a transform ends whose file of a program gives none.
-fn halt_of(ungiven: Ungiven) -> Halt
-    ensures { IsUngiven ungiven result }
-{
-    match ungiven {
-        Ungiven::File(fault) => Halt::Program(fault),
-        Ungiven::Unread(Unread::File) => Halt::File(0),
-        Ungiven::Unread(Unread::Memory) => Halt::Memory,
-    }
-}
-
-/// The program in a file, by the helper table that is named, if one is.
-#[tactic(auto, using(crate::proofs::GivenLaws::loads_given, crate::proofs::GivenLaws::loads_none))]
-fn load_file<F: Files>(
-    alloc: Global,
-    files: &mut F,
-    name: &str,
-    named: Option<Table>,
-) -> Result<Program, Halt>
-    ensures loaded { (bytes : List ℕ) → F.bytes files.old name.now ≡ Some bytes → LoadsGiven (given_program named (first_bytes bytes)) result }
-    ensures kept { KeepsAll (F.bytes files.old) (F.bytes files.new) }
-{
-    match read_program(alloc, files, name, named) {
-        Ok(given) => program_of(alloc, &given),
-        Err(ungiven) => Err(halt_of(ungiven)),
-    }
-}
 
 /// Runs a program on a reader's batches, and says on the way how far that is.
 fn run<F: Files, R: Read, E: Write>(
@@ -275,7 +215,7 @@ fn transform_files<F: Files, I: Read, O, E: Write>(
     ensures leaves { F.tells ≡ true → CallLeaves named (names_of words.now) (I.remaining host.old.stdin) (F.bytes host.old.files) (F.bytes host.new.files) }
     ensures parts { F.tells ≡ true → KeepsOrParts F.leads (names_of words.now) (F.bytes host.old.files) (F.bytes host.new.files) }
     ensures kept { KeepsOthers F.leads (names_of words.now) (F.bytes host.old.files) (F.bytes host.new.files) }
-    ensures refused { KeepsIfRefused named (names_of words.now) (F.bytes host.old.files) (F.bytes host.new.files) }
+    ensures refused { KeepsUnlessAccepted named (names_of words.now) (F.bytes host.old.files) (F.bytes host.new.files) }
     ensures unread { IfErr result (λ halt. (is_after_image halt ≡ true)
         ⊎ KeepsAll (F.bytes host.old.files) (F.bytes host.new.files)) }
     ensures stdout { host.new.stdout ≡ host.old.stdout }
@@ -287,11 +227,12 @@ fn transform_files<F: Files, I: Read, O, E: Write>(
 }
 
 /// Runs a program on the batches of a file and writes each output partition's rows as batches to a file of its own;
-/// answers the status. A helper table may be named. The words are the image or the program file, the file of the batches
-/// and one file for each output partition. The input partition is 0, and its offsets begin at 0. Where it ends since offsets are used up, one batch
-/// more might reach the offset 2^62, or an output partition would have more than 2^63 rows. All files but those of the
-/// output partitions stay, and these too where the program is refused, and where one of them is one file with another
-/// file of the call. However it ends, each of them has what it had or whole batches of its rows.
+/// answers the status. A helper table may be named. The words are the image, the program file or the text of rules, the
+/// file of the batches and one file for each output partition. A name that ends in `.rules` is that of a text, which gives
+/// the program that `rule` writes. The input partition is 0, and its offsets begin at 0. Where it ends since offsets are
+/// used up, one batch more might reach the offset 2^62, or an output partition would have more than 2^63 rows. All files
+/// but those of the output partitions stay, and these too where the program is refused, and where one of them is one file
+/// with another file of the call. However it ends, each of them has what it had or whole batches of its rows.
 #[tactic(auto, using(crate::proofs::FileLaws::sources_kept))]
 pub fn transform<F: Files, I: Read, O, E: Write>(
     host: &mut Host<F, I, O, E>,
@@ -304,7 +245,7 @@ pub fn transform<F: Files, I: Read, O, E: Write>(
     ensures parts { F.tells ≡ true → KeepsOrParts F.leads (names_of words.now) (F.bytes host.old.files) (F.bytes host.new.files) }
     ensures sources { F.tells ≡ true → KeepsSources (names_of words.now) (F.bytes host.old.files) (F.bytes host.new.files) }
     ensures kept { KeepsOthers F.leads (names_of words.now) (F.bytes host.old.files) (F.bytes host.new.files) }
-    ensures refused { KeepsIfRefused named (names_of words.now) (F.bytes host.old.files) (F.bytes host.new.files) }
+    ensures refused { KeepsUnlessAccepted named (names_of words.now) (F.bytes host.old.files) (F.bytes host.new.files) }
     ensures stdout { host.new.stdout ≡ host.old.stdout }
 {
     if words.len() < 3 || words.len() > MAX_PARTITIONS + 2 {

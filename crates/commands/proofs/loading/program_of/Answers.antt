@@ -1,7 +1,7 @@
 use Rattle.std.proofs.Common.{rules}
 use Rattle.annotate.specs.Loads.{FaultIs}
 use Rattle.program_file.specs.Choice.{program_in}
-use Rattle.commands.proofs.transforming.program_of.Goals as goal
+use Rattle.commands.proofs.loading.program_of.Goals as goal
 
 pub returns-in-Err : goal.returns-in-Err
 returns-in-Err c =
