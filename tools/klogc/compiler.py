@@ -174,14 +174,36 @@ def operand_of(argument):
 
 # ---- compiling
 
+# An error of the compiler, of a line or of a function, and what is said in place of what LLVM says of what BPF can't have.
+ERROR = re.compile(r"(?:(.*?):(\d+):\d+: )?(?:fatal )?error: (?:\S*?:(\d+):\d+: in function (\w+) .*?: )?(.*)")
+SAID = (
+    ("stack limit", "the variables of {0} take more than the stack's 512 bytes: use fewer or smaller ones, or the helpers of klog_parts.h"),
+    (r"built-in function '__\w*[sd]f", "floating point is used, which klog does not have: count in smaller units"),
+    (r"built-in function '__\w*ti", "numbers of 128 bits are multiplied or divided, which klog does not have"),
+    ("StructRet|aggregate returns", "{0} has a struct of more than 16 bytes as result, or any number of arguments: give it the address of a variable"),
+    ("too many arg|stack arg", "a function has more than five arguments: give it the address of a struct"),
+    ("dynamic stack", "an array has a length that is not known: give it the greatest one"),
+)
+
+
 def first_error(printed, source):
     """The compiler's first error as one line, by the source's own name."""
     for line in printed.split("\n"):
-        found = re.match(r"(.*?):(\d+):\d+: (?:fatal )?error: (.*)", line)
+        found = ERROR.match(line)
         if found:
-            return NotCompiled(found[3], f"{os.path.basename(found[1])}:{found[2]}")
-    error = next((line for line in printed.split("\n") if "error" in line), printed.strip().split("\n")[-1])
-    return NotCompiled(f"not compiled: {error.strip()}", os.path.basename(source))
+            return NotCompiled(*said_of(found, source))
+    return NotCompiled(f"not compiled: {printed.strip().split(chr(10))[-1]}", os.path.basename(source))
+
+
+def said_of(found, source):
+    """What to say of an error, and where."""
+    path, line, line_of_function, function, text = found.groups()
+    line = next((number for number in (line, line_of_function) if number not in (None, "0")), None)
+    place = os.path.basename(path or source) + (f":{line}" if line else "")
+    said = next((said for pattern, said in SAID if re.search(pattern, text)), None)
+    if said:
+        return said.format(f"`{function}`" if function else "a function"), place
+    return text if path else f"not compiled: {text}", place
 
 
 class Compiler:

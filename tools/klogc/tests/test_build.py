@@ -186,6 +186,16 @@ class Words(unittest.TestCase):
                     self.assertEqual(done.returncode, 1)
                     self.assertRegex(done.stderr, said)
                     self.assertEqual(done.stderr.count("\n"), 1, done.stderr)
+            for body, said in (("u8 big[600];\n\tload_value(big, 0, 512);\n\treturn emit_value(0, big, 512);", r"it\.c: the variables of `transform` take more than the stack's 512 bytes: "),
+                               ("double x = value_length * 1.5;\n\treturn x > 3;", r"it\.c:4: floating point is used, "), ("return (__int128)value_length * key_length >> 64;", r"it\.c:4: numbers of 128 bits are "),
+                               ("u8 b[value_length];\n\tload_value(b, 0, value_length);\n\treturn emit_value(0, b, value_length);", r"it\.c(:4)?: an array has a length that is not known: ")):
+                with open(path, "w", encoding="utf-8") as it:
+                    it.write(HEAD.replace("#include <string.h>\n", "") + ENTRY % ("transform", "\t" + body))
+                done = self.call("build", path)
+                with self.subTest(body):
+                    self.assertEqual(done.returncode, 1)
+                    self.assertRegex(done.stderr, f"^{said}")
+                    self.assertEqual(done.stderr.count("\n"), 1, done.stderr)
         done = self.call("build", "/nowhere/it.c")
         self.assertEqual((done.returncode, done.stderr), (1, "/nowhere/it.c: No such file or directory\n"))
 
