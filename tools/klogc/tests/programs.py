@@ -171,7 +171,7 @@ class Maker:
         r, self.depth = self.r, self.depth + 1
         makers = [self.assignment, self.assignment, self.element, self.guarded_byte, self.field, self.kept]
         if self.depth <= self.deepest:
-            makers += [self.changed_places, self.local, self.tested, self.tested]
+            makers += [self.changed_places, self.local, self.tested, self.tested, self.ordered]
             makers += [self.choice, self.choice, self.counted, self.ended, self.pointed, self.backward, self.switch, self.called, self.copied, self.chosen, self.compared, self.compared_part,
                        self.emitted, self.loaded]
         try:
@@ -224,6 +224,12 @@ class Maker:
         n, v = self.index("n"), self.variable()
         kind = self.r.choice(("u64", "u32", "int", "long"))
         return f"{{ {kind} {n} = {self.narrow()}; if ({n} {self.r.choice(('<', '>', '<=', '>=', '==', '!='))} {self.r.choice(SMALL)}) {v} += {n} + 1; else {v} ^= {n}; }}"
+
+    def ordered(self):
+        """Which of two numbers is the less, and by how much, is tested again."""
+        n, m, v, step = self.index("n"), self.index("n"), self.variable(), self.r.randrange(1, 4)
+        again = self.r.choice((f"{n} + {step} < {m}", f"{m} - {n} > {step}", f"{n} + {step} != {m}", f"{m} < {n} + {step}"))
+        return f"{{ u64 {n} = {self.variable()} & 31, {m} = {self.variable()} & {self.r.choice((31, 63))}; if ({n} < {m}) {{ if ({again}) {v} += 3; else {v} ^= {m}; }} }}"
 
     def changed_places(self):
         """Variables go round in a loop."""
