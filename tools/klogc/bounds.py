@@ -173,8 +173,9 @@ class Bounds:
             return False
         return more <= slack or more <= self.whole_slack(v, region)
 
-    def whole_slack(self, v, region):
-        """As slack, by all sums that v is a part of and that are known to be at most the length."""
+    def whole_slack(self, v, region, ranges=None):
+        """As slack, by all sums that v is a part of and that are known to be at most the length. For who asks often: `ranges` are
+        whole_ranges()."""
         slack = self.slack(v, region)
         if slack is None or v.terms is None:
             return slack
@@ -183,7 +184,10 @@ class Bounds:
             if which != region or terms[0][0] not in parts and (len(terms) == 1 or not touches(parts, terms)):
                 continue
             rest = plus(terms, without)
-            known = self.whole_range(rest) if rest and len(rest) <= len(terms) else None
+            if not rest or len(rest) > len(terms):
+                continue
+            ranges = self.whole_ranges() if ranges is None else ranges
+            known = ranges.get(rest) or self.floor_range(rest)
             if known is not None:
                 slack = max(slack, k + known[0] - small(v.c))
         return slack
@@ -282,11 +286,23 @@ class Bounds:
         for v in (*self.variables.values(), *[held.value for held in self.memory.values() if held.value is not None]):
             if v.terms == terms and v.hi >> 40 == 0 and is_whole(v := self.settled(v)):
                 return v.lo - small(v.c), v.hi - small(v.c)
+        return self.floor_range(terms)
+
+    def floor_range(self, terms):
+        """The same of a sum that nothing has."""
         if terms in self.floors:
             ends = [self.most[region] - self.facts[terms, region] for region in LIMIT if (terms, region) in self.facts]
             if ends:
                 return self.floors[terms], min(ends)
         return None
+
+    def whole_ranges(self):
+        """The same of all sums that variables and the stack have."""
+        found = {}
+        for v in (*self.variables.values(), *[held.value for held in self.memory.values() if held.value is not None]):
+            if v.terms and v.terms not in found and v.hi >> 40 == 0 and is_whole(v := self.settled(v)):
+                found[v.terms] = v.lo - small(v.c), v.hi - small(v.c)
+        return found
 
     def _narrow_length(self, region, c, lo, hi):
         least, most = self.least[region], self.most[region]

@@ -114,6 +114,7 @@ class Meeting:
         one, other, variables = self.one, self.other, self.both.variables
         known = [(name, v) for name, v in variables.items() if v.terms is not None and v.region in (None, *LIMIT)]
         sides = [(side, parts_of([terms for terms, _ in side.facts])) for side in (one, other)]
+        ranges = None
         for v, w in itertools.product([pair for pair in known if pair[0] in new], known):
             (name, x), (second, y) = v, w
             if x.region is not None and y.region is not None:
@@ -123,7 +124,9 @@ class Meeting:
                 continue
             for region in LIMIT if x.region is None and y.region is None else (x.region or y.region,):
                 if any((terms, region) in side.facts for terms, (side, _) in zip(sums, sides)):
-                    slacks = [side.whole_slack(added(side.variables[name].in_region(None), side.variables[second].in_region(None)), region) for side in (one, other)]
+                    ranges = ranges or [side.whole_ranges() for side in (one, other)]
+                    slacks = [side.whole_slack(added(side.variables[name].in_region(None), side.variables[second].in_region(None)), region, known)
+                              for side, known in zip((one, other), ranges)]
                     self.both.keep_fact(summed(x, y, 1), region, slacks, small((x.c + y.c) & M64))
 
     def _order(self, new):

@@ -202,7 +202,7 @@ class Program:
     def _line(self, place):
         path, section, slot = place
         for number, at in [(section, slot), *reversed(path)]:
-            near = range(at, max(at - NEAR, -1), -1) if number in self.lines else ()
+            near = range(at, max(at - NEAR, -1), -1) if number in self.lines and self.lines[number].addresses else ()
             line = next(filter(None, (self.lines[number].at(8 * back) for back in near)), None)
             if line and line.file != RUNTIME:
                 return f"{line.file}:{line.line}"
