@@ -21,6 +21,7 @@ ENTRY = "u64 %s(const u8 *value, u64 value_length, const u8 *key, u64 key_length
 # A name, what the function has, with a mark at the line that is refused, and what is said of it.
 REFUSED = [
     ("byte", "\tif (value_length < 3)\n\t\treturn 1;\n\treturn value[3]; /*!*/", "byte 3 of the value is read, and the value may have 3 bytes: test first that value_length is at least 4"),
+    ("compared", '\tif (value_length < 1)\n\t\treturn 1;\n\treturn memcmp(value + value[0], "abc", 3) ? 2 : 3; /*!*/', "a part of the value is compared that may end outside: test first that its end is at most value_length"),
     ("bytes_of_key", "\treturn *(const u32 *)(key + 4); /*!*/", "bytes 4 to 7 of the key are read, and the key may have 0 bytes: test first that key_length is at least 8"),
     ("before", "\treturn value[-1]; /*!*/", "a byte before the value's first is read"),
     ("place", "\tif (value_length < 1)\n\t\treturn 1;\n\treturn value[value[0]]; /*!*/", "a byte of the value is read at a place that may be outside: test first that the place is below value_length"),
@@ -145,11 +146,15 @@ class Lowering(unittest.TestCase):
         self.assertEqual(lower(program).codes, {})
 
     def test_codes(self):
-        data = self.compiled(HEAD + ENTRY % ("it", "\treturn value[2]; /* line 5 */") + ENTRY % ("endless", "\tu64 n = value_length, steps = 1;\n\tfor (; n != 1; steps++)\n\t\tn = n & 1 ? 3 * n + 1 : n / 2;\n\treturn steps;"))
+        data = self.compiled(HEAD + ENTRY % ("it", "\treturn value[2]; /* line 5 */") + ENTRY % ("part", '\treturn value_length < 1 ? 1 : memcmp(value + value[0], "abc", 3) ? 2 : 3; /* line 9 */')
+                             + ENTRY % ("endless", "\tu64 n = value_length, steps = 1;\n\tfor (; n != 1; steps++)\n\t\tn = n & 1 ? 3 * n + 1 : n / 2;\n\treturn steps;"))
         image = lower(Program(data, "it"), strict=False)
         self.assertEqual(image.codes, {252: ["it.c:5"]})
         run = lambda image, record: second_machine.run(second_machine.decode(image.data), Spelled(0, *record[:3]), 4, (0, 0, 0))
         self.assertEqual([run(image, Record(b"k", value)) for value in (b"", b"ab", b"abc")], [252, 252, 99])
+        image = lower(Program(data, "part"), strict=False)
+        self.assertEqual(image.codes, {252: ["it.c:9"]})
+        self.assertEqual([run(image, Record(b"k", value)) for value in (b"\1abc", b"\1abd", b"\1ab", b"\xffabc", b"\4abc")], [3, 2, 252, 252, 252])
         image = lower(Program(data, "endless"), rounds=20, slots=500)
         self.assertEqual(list(image.codes), [251])
         self.assertEqual([proved for _, proved in image.loops.values()], [False])
