@@ -58,7 +58,7 @@ def lowered(program, rounds, strict, slots, fine) -> Lowered:
     Of a loop in a loop the copies are many, and few where both are one; but then less is known of where each of them is. So both
     forms are tried, with few slots first. Where the first is refused the second gets few slots alone, and no ways apart."""
     learned = {False: Learned()}
-    if not fine and program.order().places != program.order(True).places:
+    if not fine and any(len(heads) > 1 for heads in program.order().heads.values()):
         learned[True] = Learned()
     refused, stopped = None, {}
     for most in sorted({min(FEW_SLOTS, slots), slots}):
