@@ -56,7 +56,10 @@ class Lowering(Library):
     def run(self, settings):
         """The blocks that are written, each a label and its instructions, in an order in which jumps lead forward. A run that ended
         because it had too many goes on where it was."""
-        self.settings = settings
+        self.settings, most = settings, 2 * settings.slots
+        if settings.rounds:
+            # Some of the code is left out later, but seldom as much of loops that were cut.
+            most = settings.slots * 3 // 2
         if not self.blocks:
             self.enter()
         while self.queue:
@@ -64,7 +67,7 @@ class Lowering(Library):
             self.current = copy
             self.start(copy)
             self.block(self.program.blocks[copy.place], self.waiting.pop(copy))
-            if self.size > 2 * self.settings.slots:
+            if self.size > most:
                 raise TooLong
         return self.blocks
 
