@@ -53,9 +53,10 @@ class Library(Calls):
         return v.region == "stack" or isinstance(v.region, tuple) and v.region[0] == "constants"
 
     def guard_all(self, s: State, v, count):
-        """Bytes of the record at a known place are tested to be there as a whole."""
-        if v.region in LENGTH and v.is_const() and 0 <= v.lo < 1 << 63:
-            self.guard(s, v.region, v.lo, v.lo + count)
+        """Bytes of the record are tested to be there as a whole, before the way on depends on some of them."""
+        lo, hi = span(v, 0, count)
+        if v.region in LENGTH and lo >= 0 and (v.is_const() or hi <= s.least[v.region]):
+            self.guard(s, v.region, lo, hi)
 
     # ---- copies
 
