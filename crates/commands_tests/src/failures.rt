@@ -157,7 +157,7 @@ type Cut = (
     &'static str,
 );
 
-static CUTS: [Cut; 13] = [
+static CUTS: [Cut; 14] = [
     (&["run", "appending"], 1, 70, "", "file batches\n"),
     (
         &["run", "appending"],
@@ -192,6 +192,13 @@ static CUTS: [Cut; 13] = [
         25,
         "",
         "file image\n",
+    ),
+    (
+        &["transform", "some.rules", "batches", "out"],
+        1,
+        10,
+        "",
+        "file some.rules\n",
     ),
     (
         &["transform", "image", "batches", "out"],

@@ -1,4 +1,4 @@
-//! What the files of a transform have whose image or program file is refused, or can't be read.
+//! What the files of a transform have whose image, program file or text of rules is refused, or can't be read.
 
 use crate::shelf::{BATCHES, FORWARD, Shelf, TestHost, host_of, input_of, shelf_of, words_of};
 use crate::verdicts::all_hold;
@@ -17,15 +17,19 @@ const HEADER: &[u8; 16] = b"KLOG\x01\0\0\0\x01\0\0\0\x18\0\0\0";
 /// What the files of the output partitions have before.
 const BEFORE: &[u8] = b"before";
 
-/// Images and program files, each with the status of its transform, and whether the files have then what they had
-/// before.
-static IMAGES: [(&str, u8, bool); 6] = [
+/// Images, program files and texts of rules, each with the status of its transform, and whether the files have then what
+/// they had before.
+static IMAGES: [(&str, u8, bool); 10] = [
     ("forward", 0, false),
     ("file", 0, false),
     ("short", 1, true),
     ("refused", 1, true),
     ("cut", 1, true),
     ("none", 3, true),
+    ("all.rules", 0, false),
+    ("faulty.rules", 1, true),
+    ("binary.rules", 3, true),
+    ("none.rules", 3, true),
 ];
 
 /// The file of a program, of which the image is cut to this length, if there is memory for it.
@@ -35,13 +39,18 @@ fn file_of(alloc: Global, length: usize) -> Option<Vec<u8>> {
     Some(bytes)
 }
 
-/// A shelf with images and with the files of two output partitions, if there is memory for it.
+/// A shelf with images, texts of rules and the files of two output partitions, if there is memory for it.
 fn full_shelf(alloc: Global) -> Option<Shelf> {
     let mut shelf = shelf_of(alloc, "forward", &FORWARD)?;
     shelf.write("refused", &REFUSED).ok()?;
     shelf.write("cut", &FORWARD[..7]).ok()?;
     shelf.write("file", &file_of(alloc, 24)?).ok()?;
     shelf.write("short", &file_of(alloc, 23)?).ok()?;
+    shelf.write("all.rules", b"output 0\noutput 1\n").ok()?;
+    shelf.write("faulty.rules", b"output 0\noutput 64\n").ok()?;
+    shelf
+        .write("binary.rules", b"drop when key = \"\xff\"\n")
+        .ok()?;
     shelf.write("one", BEFORE).ok()?;
     shelf.write("other", BEFORE).ok()?;
     Some(shelf)

@@ -38,7 +38,7 @@ fn reader_of(alloc: Global, bytes: &[u8], fails: usize) -> io::Result<Breaking> 
     }
 }
 
-/// Files of scripts, of two batches, of an image and of a list of images. Each of their readers but those of scripts
+/// Files of scripts, of two batches, of an image, of rules and of a list of images. Each of their readers but those of scripts
 /// fails at that call, if that is not 0. A file that is created takes `room` bytes.
 #[derive(Drop)]
 pub(crate) struct Torn {
@@ -67,6 +67,7 @@ impl Files for Torn {
             "appending" => reader_of(self.alloc, APPENDING.as_bytes(), 0),
             "batches" => reader_of(self.alloc, &BATCHES, self.fails),
             "image" => reader_of(self.alloc, &FORWARD, self.fails),
+            "some.rules" => reader_of(self.alloc, b"output 0\n", self.fails),
             "list" => reader_of(self.alloc, b"image\nimage 2\n", self.fails),
             _ => Err(io::Error::from(io::ErrorKind::NotFound)),
         }
