@@ -72,7 +72,9 @@ def faults_of(rt, crate, every):
 def main():
     rt, root = kit(), os.getcwd()
     rt.Crate.allowed = rt.handles_of(root)
-    crates, count = rt.crates_of(root), 0
+    # (the gate's own list of crates would set aside what earlier checks left)
+    rt.rtlib.Crate, count = rt.Crate, 0
+    crates = rt.rtlib.crates_below(root)
     for crate in crates:
         for fault in faults_of(rt, crate, crates):
             count += 1
