@@ -443,7 +443,7 @@ static bool is_fault(uint32_t number_of)
 	       (number_of > KLOG_VERIFIER && number_of <= KLOG_VERIFIER + 13) ||
 	       (number_of > KLOG_BATCH && number_of <= KLOG_BATCH + 9) ||
 	       (number_of > KLOG_FILE && number_of <= KLOG_FILE + 4) ||
-	       (number_of > KLOG_RULES && number_of <= KLOG_RULES + 10 && number_of != KLOG_RULES + 8);
+	       (number_of > KLOG_RULES && number_of <= KLOG_RULES + 9 && number_of != KLOG_RULES + 8);
 }
 
 static void call_one(void)

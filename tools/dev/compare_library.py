@@ -183,7 +183,7 @@ def compare(rng, engine, image, table):
 
 def some_rules(rng, maker):
     """A text of rules, of which some bytes may be lost or others."""
-    text = bytearray(maker.rules(False).encode())
+    text = bytearray(maker.rules(True).encode())
     for _ in range(rng.choice([0, 0, 0, 1, 2])):
         at = rng.randrange(len(text) + 1)
         text[at:at + rng.choice([0, 1, 1, 9])] = rng.choice([b"", rng.choice([b'"', b"\n", b"(", b"x", b"#", b"\xff", b"drop"])])

@@ -188,7 +188,7 @@ static void load(struct worker *w)
 
 static void fault_text(struct worker *w)
 {
-	static const uint32_t faults[] = {0, 1, 2, 3, 4, 5, 6, 7, 8, 9, 101, 102, 106, 107, 201, 213, 214, 301, 308, 309, 310, 401, 404, 405, 501, 507, 508, 509, 510, 511};
+	static const uint32_t faults[] = {0, 1, 2, 3, 4, 5, 6, 7, 8, 9, 101, 102, 106, 107, 201, 213, 214, 301, 308, 309, 310, 401, 404, 405, 501, 507, 508, 509, 510};
 	size_t room = below(w, 80), length = 0;
 	char *text = (char *)block(w, room);
 	uint32_t of = one_in(w, 3) ? (uint32_t)number(w) : faults[below(w, sizeof faults / sizeof faults[0])];
