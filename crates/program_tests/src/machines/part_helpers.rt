@@ -113,6 +113,9 @@ static EMITTED: &str = "\
 6b - 68:7879 | mov64 r1, 0; mov64 r2, 3; mov64 r3, 0; mov64 r4, 2; call 20; exit | 6b 7879 68:7879
 # no bytes of a null value are an empty value
 6b - 68:- | mov64 r1, 0; mov64 r2, 0; mov64 r3, 0; mov64 r4, 0; call 20; exit | 6b . 68:-
+# so are those of a header that isn't there, whatever its number
+6b 61 68:- | mov64 r1, 0; mov64 r2, 1000; mov64 r3, 0; mov64 r4, 0; call 20; exit | 6b . 68:-
+6b 61 68:- | mov64 r1, 0; mov64 r2, -1; mov64 r3, 0; mov64 r4, 0; call 20; exit | 6b . 68:-
 # a byte is replaced, left out, put before the first and behind the last
 6b 616263 68:- | st8 [r10-8], 42; mov64 r4, r10; add64 r4, -8; mov64 r5, 1; mov64 r1, 0; mov64 r2, 1; mov64 r3, 1; \
     call 21; exit | 6b 612a63 68:-
