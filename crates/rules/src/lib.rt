@@ -2,6 +2,12 @@
 //!
 //! `parse` reads the rules of a text, and `write` prints them in their one form. `chosen` says which rule takes a
 //! record, and `holds` whether a condition holds of one.
+//!
+//! ```
+//! let rules = rules::parse(alloc, b"output 1 when value begins \"4\"\ndrop\n").ok()?;
+//! let printed = rules::write(alloc, &rules).ok()?;
+//! assert!(printed.as_slice() == b"output 1 when value begins \"4\"\ndrop 10\n".as_slice());
+//! ```
 #![tactic(auto)]
 
 mod digits;

@@ -4,6 +4,12 @@
 //! A program tries the rules in order. Each piece of it begins at its first instruction and goes on behind its last
 //! one, so that pieces follow one another. r6 has the number of a part, r8 whether a condition holds, and r0 what was
 //! answered or the value of a term.
+//!
+//! ```
+//! let file = rules_compiler::compile_text(alloc, b"output 1 when value begins \"4\"\n").ok()?;
+//! let program = annotate::load(alloc, &file.image, machine_spec::Table::Three);
+//! assert!(file.table == 3 && program.is_ok());
+//! ```
 #![tactic(auto)]
 
 mod actions;
