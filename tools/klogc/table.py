@@ -12,7 +12,7 @@ from .lower import Lowered
 from .meaning import Run, Trap
 from .program import Program, Refused
 
-HEAD = "| transform | what it does | as first written | instructions |\n|---|---|---|---|"
+HEAD = "| transform | what it does | instructions, or the refusal |\n|---|---|---|"
 OUTPUTS = 64
 
 
@@ -36,8 +36,7 @@ class Row(NamedTuple):
     wrong: list
 
     def __str__(self):
-        said = "accepted" if self.refusal is None else code(self.refusal)
-        return f"| {self.name} | {self.what} | {said} | {self.instructions or ''} |"
+        return f"| {self.name} | {self.what} | {self.instructions if self.refusal is None else code(self.refusal)} |"
 
 
 def code(text):
