@@ -4,8 +4,9 @@
     tools/dev/doc_examples.py [CRATE ..]    # all crates if none is named
 
 An example stands between two lines of three backquotes in the first comment of a crate's root file. It is the body of a
-function that gets `alloc`, and `BATCH`, a record batch of one record. Its last line is `assert!(CONDITION);`. The status is 1
-where one does not compile, ends early by `?`, or does not hold. They are compiled by `rt try`, so nothing is proved of them.
+function that gets `alloc`, `rt` of a type `R`, and `BATCH`, a record batch of one record. Its last line is
+`assert!(CONDITION);`. The status is 1 where one does not compile, ends early by `?`, or does not hold. They are compiled by
+`rt try`, so nothing is proved of them.
 """
 import os
 import re
@@ -18,15 +19,18 @@ TOP = os.path.dirname(os.path.dirname(os.path.dirname(os.path.abspath(__file__))
 HEAD = """#![tactic(auto)]
 
 use std::alloc::Global;
+use std::marker::Brand;
 use std::process::ExitCode;
+use std::sync::Wait;
+use std::thread::Threads;
 
 /// A record batch of one record, with the key `k` and the value `v`.
 static BATCH: &[u8] = &[%s];
 """
 BATCH = ("00000000000000000000003a0000000002fe917cab0000000000000000000000000000"
          "0000000000000000ffffffffffffffffffffffffffff0000000110000000026b027600")
-FUNCTION = "fn of_%s(alloc: Global) -> Option<bool> {\n%s\n    Some(%s)\n}\n"
-CALL = """    match of_%s(alloc) {
+FUNCTION = "fn of_%s<R: Threads + Wait + Sync>(rt: &R, alloc: Global) -> Option<bool> {\n%s\n    Some(%s)\n}\n"
+CALL = """    match of_%s(&rt, alloc) {
         Some(true) => {}
         _ => {
             let _told = eprintln!(rt; "%s: its example does not hold");

@@ -5,6 +5,16 @@
 //! there; what is done to a log, a book or the catalogue is in the contracts of `part_log`,
 //! `out_book` and `catalogue`. `start` runs a worker for each input partition in a thread of its
 //! own.
+//!
+//! ```
+//! // Proved code shows that `Brand` names these parts, as `crates/embedding` does.
+//! let parts = broker::Parts::new(rt, alloc, 1, 1, 8).ok()?;
+//! let made: broker::Broker<Brand, catalogue::Catalogue<&R>> = broker::Broker::new(alloc, parts).ok()?;
+//! let (batch, _) = batch::decode(alloc, bytes::Bytes::from_static(BATCH)).ok()?;
+//! let receipt = made.append(rt, alloc, 0, batch).ok()?;
+//! let ended = made.start(rt, alloc, broker::Until::Drained, &worker::Open).ok()?;
+//! assert!(receipt.index() == 0 && matches!(ended.first(), Some(broker::Ended::Done(1))));
+//! ```
 #![tactic(auto)]
 
 mod audit;

@@ -5,6 +5,16 @@
 //! table at each find, and returns no older version than it has. What a load returns, and what a
 //! finder returned before, bound it too: under a name that a `Known` carries it returns never none
 //! and never an older version, and no version of a name after a later one.
+//!
+//! ```
+//! let image = bpf_asm::assemble(alloc, "mov64 r0, 0\nexit\n").ok()?;
+//! let image = bytes::Bytes::copy_from_slice(alloc, &image).ok()?;
+//! let mut live = catalogue::Catalogue::new(rt, alloc).ok()?;
+//! let (_version, known) = live.load(alloc, "drop", &image, machine_spec::Table::One).ok()?;
+//! let mut finder = live.reader(alloc).ok()?;
+//! let (version, _program) = finder.find(known.name(), &known).ok()??;
+//! assert!(version == 1);
+//! ```
 #![tactic(auto)]
 
 mod catalogue;

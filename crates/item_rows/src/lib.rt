@@ -1,5 +1,16 @@
 //! The rows of a log's item, for every output partition at once or for one, and what became of its
 //! records. Each record is run once: this is read in the code.
+//!
+//! ```
+//! let image = bpf_asm::assemble(alloc, "mov64 r1, 0\ncall 3\nexit\n").ok()?;
+//! let image = bytes::Bytes::copy_from_slice(alloc, &image).ok()?;
+//! let program = log_item::Program::new(alloc, &image, machine_spec::Table::One).ok()?;
+//! let (batch, _) = batch::decode(alloc, bytes::Bytes::from_static(BATCH)).ok()?;
+//! let item = log_item::Item::Batch(log_item::LoggedBatch::new(alloc, batch).ok()?);
+//! let origin = item_rows::Origin { input: 0, offset: 0, outputs: 1 };
+//! let rows = item_rows::item_rows_in(&mut item_rows::Blocks::new(alloc), &origin, Some(&program), &item).ok()?;
+//! assert!(rows.rows(0).len() == 1);
+//! ```
 #![tactic(auto)]
 
 mod batch_run;

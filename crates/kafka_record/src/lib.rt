@@ -1,4 +1,14 @@
 //! Records of Kafka's message format (magic 2): one record and its bytes.
+//!
+//! ```
+//! use kafka_record::{Headers, Record};
+//! let given = Record { timestamp_delta: 0, key: None, value: None, headers: Headers { list: Vec::new(alloc) } };
+//! let mut spelled = Vec::new(alloc);
+//! kafka_record::write(&given, 0, &mut spelled).ok()?;
+//! let spelled = bytes::Bytes::from_vec(spelled).ok()?;
+//! let (read, size) = kafka_record::read(alloc, &spelled, 0, 0).ok()?;
+//! assert!(read.value.is_none() && size == 7);
+//! ```
 #![tactic(auto)]
 
 mod by_ref;

@@ -2,6 +2,13 @@
 //! instruction, it makes a verified program or reports why the list is no annotation of the code.
 //!
 //! A verified program keeps the states at the targets of jumps; the others follow from them.
+//!
+//! ```
+//! let image = bpf_asm::assemble(alloc, "mov64 r0, 0\nexit\n").ok()?;
+//! let code = bpf_isa::decode(alloc, &image).ok()?;
+//! let verified = notes::check_sparse(alloc, code, machine_spec::Table::One, Vec::new(alloc)).ok()?;
+//! assert!(verified.kept() == 0);
+//! ```
 #![tactic(auto)]
 
 mod decoded;

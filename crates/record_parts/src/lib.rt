@@ -3,6 +3,14 @@
 //!
 //! All functions are pure and take no memory. A sum of a place and a length doesn't wrap: beyond the end
 //! of a part nothing is found. A part that a record hasn't has no bytes, and neither has a null one.
+//!
+//! ```
+//! use record_parts::Part;
+//! let (batch, _) = batch::decode(alloc, bytes::Bytes::from_static(BATCH)).ok()?;
+//! let given = kafka_record::RecordRef::of(batch.records.list.first()?);
+//! let place = record_parts::find(&given, Part::Value, 0, b"v");
+//! assert!(place == 1 && record_parts::part_length(&given, Part::Key) == 3);
+//! ```
 #![tactic(auto)]
 
 mod decimals;
