@@ -1,4 +1,4 @@
-/* Adds the header "source" with the value "klog" after a record's own headers; a record that has sixteen is forwarded with these.
+/* Adds the header "source" with the value "klog"; a record that has sixteen headers is forwarded with these.
  *
  * k | a -> 0 k | a
  * k | a with source=other -> 0 k | a

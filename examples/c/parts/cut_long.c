@@ -1,4 +1,4 @@
-/* Emits the first 100 bytes of a value; a shorter one is forwarded as it is.
+/* Emits the first 100 bytes of longer values, and forwards others.
  *
  * k | a -> 0 k | a
  * k | -> 0 k |

@@ -1,5 +1,5 @@
-/* A value has `"card":"` and sixteen digits, among its first 4,096 bytes. Emits it with stars in place of the first twelve; one without
- * them is forwarded as it is.
+/* Writes stars over the first twelve of the sixteen digits after `"card":"`, among a value's first 4,096 bytes; a value
+ * without them is forwarded.
  *
  * k | {"card":"4111111111111234","a":1} -> 0 k | {"card":"************1234","a":1}
  * k | {"id":7,"card":"4111111111111234"} -> 0 k | {"id":7,"card":"************1234"}

@@ -1,4 +1,4 @@
-/* Routes a record over four outputs as Kafka's clients do: by the hash of its key. A record without a key goes to output 0.
+/* Routes over four outputs by the hash of the key, as Kafka's clients do; without a key to output 0.
  *
  * 21 | v -> 0 21 | v
  * abc | v -> 3 abc | v

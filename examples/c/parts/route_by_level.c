@@ -1,5 +1,5 @@
-/* Routes JSON values by their level: error to output 2, warn to 1, others and those without a level to 0; what has the header "debug" with
- * the value "yes" is dropped.
+/* Routes JSON values by their level: error to output 2, warn to 1, others to 0. Drops the records whose header "debug"
+ * is "yes".
  *
  * k | {"level":"error","text":"disk full"} -> 2 k | {"level":"error","text":"disk full"}
  * k | {"time": 17, "level": "warn"} -> 1 k | {"time": 17, "level": "warn"}

@@ -1,4 +1,4 @@
-/* A value begins with the 5 bytes of a schema registry: a 0 and a schema's number. Emits what follows them, of any length.
+/* Cuts off the 5 bytes of a schema registry: a 0 and a schema's number.
  *
  * k | \0\0\0\0\x07hello -> 0 k | hello
  * k | \0\0\0\0\x07 -> 0 k |

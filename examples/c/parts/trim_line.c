@@ -1,4 +1,4 @@
-/* Emits a line without the newline at its end, or the carriage return and the newline.
+/* Cuts off the newline of a line, or its carriage return and newline.
  *
  * k | hello\n -> 0 k | hello
  * k | hello\r\n -> 0 k | hello

@@ -1,4 +1,4 @@
-/* Forwards values that begin with a date as 2026-11-26; the month and the day are in range, others are rejected.
+/* Forwards values that begin with a date as 2026-11-26, and rejects others.
  *
  * k | 2026-11-26 -> 0 k | 2026-11-26
  * k | 2026-13-26 -> reject 1

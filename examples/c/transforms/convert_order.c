@@ -1,4 +1,4 @@
-/* A value is two numbers of 4 and 8 bytes, big-endian. Emits them little-endian.
+/* A value is two big-endian numbers of 4 and 8 bytes. Emits them little-endian.
  *
  * k | \0\0\1\2\0\0\0\0\0\0\0\7 -> 0 k | \2\1\0\0\7\0\0\0\0\0\0\0
  * k | \0\0\1 -> reject 1 */

@@ -1,4 +1,4 @@
-/* Emits the length of a value's first field, which ends at a comma or the value's end and has at most 20 bytes, as one byte.
+/* Emits the length of a value's first field, at most 20, as one byte. A comma or the value's end is its end.
  *
  * k | name,street -> 0 k | \4
  * k | name -> 0 k | \4

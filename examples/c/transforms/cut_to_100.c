@@ -1,4 +1,4 @@
-/* Emits the first 100 bytes of a value that is longer, and forwards the others.
+/* Emits the first 100 bytes of longer values, and forwards others.
  *
  * k | short -> 0 k | short
  * k | 0123456789*11 -> 0 k | 0123456789*10 */

@@ -1,4 +1,4 @@
-/* A record without a value gets the value "{}", and is forwarded otherwise.
+/* Gives a record without a value the value "{}".
  *
  * k | null -> 0 k | {}
  * k | v -> 0 k | v */

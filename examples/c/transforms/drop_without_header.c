@@ -1,4 +1,4 @@
-/* Drops the records that have no header "trace", and forwards the others.
+/* Drops the records that have no header "trace".
  *
  * k | v with trace=1 -> 0 k | v
  * k | v with id=7, trace=null -> 0 k | v

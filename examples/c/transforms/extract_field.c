@@ -1,4 +1,4 @@
-/* A value begins with the length of a field, in 2 bytes, big-endian, and the field. Emits the field, of up to 200 bytes.
+/* Emits the field, of up to 200 bytes, that a value begins with after its length in 2 bytes, big-endian.
  *
  * k | \0\4name and more -> 0 k | name
  * k | \0\4na -> reject 1

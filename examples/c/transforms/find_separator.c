@@ -1,4 +1,4 @@
-/* Gives a record the key that stands in its value before the first semicolon, which is within 64 bytes.
+/* Gives a record the key that stands before the first semicolon of its value, within 64 bytes.
  *
  * k | berlin;12.5 -> 0 berlin | berlin;12.5
  * k | no separator -> reject 1

@@ -1,4 +1,4 @@
-/* Emits a record with its key of 8 bytes as 16 hexadecimal digits.
+/* Writes a key of 8 bytes as 16 hexadecimal digits.
  *
  * \0\1\2\3\376\377ab | v -> 0 00010203feff6162 | v
  * k | v -> reject 1 */

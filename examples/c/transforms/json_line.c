@@ -1,4 +1,4 @@
-/* A value is a sensor's number of 1 byte and a level of 1 byte. Emits a JSON line with both as three digits.
+/* Emits a JSON line of a sensor's number and a level, of a byte each, as three digits.
  *
  * k | \7\300 -> 0 k | {"sensor":"007","level":"192"}\n
  * k | \7 -> reject 1 */

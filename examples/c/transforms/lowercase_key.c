@@ -1,4 +1,4 @@
-/* Emits a record with its key of exactly 8 letters in lower case.
+/* Writes a key of 8 letters in lower case.
  *
  * ORDER-aB | v -> 0 order-ab | v
  * k | v -> reject 1 */

@@ -1,4 +1,4 @@
-/* Writes a star over each digit of a value of up to 32 bytes; a longer one is rejected.
+/* Writes a star over each digit of a value of up to 32 bytes, and rejects longer ones.
  *
  * k | card 4111, code 7 -> 0 k | card ****, code *
  * k | -> 0 k |

@@ -1,4 +1,4 @@
-/* A value is a decimal number of 1 to 6 digits. Numbers from 1000 on go to output 1, others to output 0.
+/* Sends decimal numbers of 1 to 6 digits to output 1 from 1000 on, else to output 0.
  *
  * k | 999 -> 0 k | 999
  * k | 1000 -> 1 k | 1000

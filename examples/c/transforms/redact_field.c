@@ -1,4 +1,4 @@
-/* A value is a row of 32 bytes, whose bytes 8 to 15 are a password. Emits it with crosses in their place.
+/* Writes crosses over a password, the bytes 8 to 15 of a value of 32.
  *
  * k | customerSECRET12 ordinary bytes. -> 0 k | customerxxxxxxxx ordinary bytes.
  * k | short -> reject 1 */

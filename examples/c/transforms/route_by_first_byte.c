@@ -1,4 +1,4 @@
-/* Values that begin with a letter from A to M go to output 0, others to output 1; empty ones are dropped.
+/* Sends values that begin with A to M to output 0, others to output 1, and drops empty ones.
  *
  * k | Apple -> 0 k | Apple
  * k | Orange -> 1 k | Orange

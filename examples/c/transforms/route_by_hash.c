@@ -1,4 +1,4 @@
-/* Routes a record over four outputs by a hash of its key's first 8 bytes: FNV-1a in 32 bits.
+/* Routes over four outputs by a hash of the key's first 8 bytes: FNV-1a in 32 bits.
  *
  * k | a -> 2 k | a
  * customer-17 | a -> 1 customer-17 | a */

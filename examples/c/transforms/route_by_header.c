@@ -1,4 +1,4 @@
-/* Sends the records with a header "region" whose value is "eu" to output 1, and the others to output 0.
+/* Sends the records whose header "region" is "eu" to output 1, others to output 0.
  *
  * k | v with region=eu -> 1 k | v
  * k | v with id=7, region=eu -> 1 k | v

@@ -1,4 +1,4 @@
-/* Sends the records of each day's hours from 8 to 18, UTC, to output 0, and the others to output 1.
+/* Sends the records of the hours from 8 to 18, UTC, to output 0, others to output 1.
  *
  * k | v at 1767225600000 -> 1 k | v
  * k | v at 1767254400000 -> 0 k | v

@@ -1,4 +1,4 @@
-/* A value has a price in cents at its bytes 4 to 7, big-endian. Routes it by price: to 0 below 1000, to 1 below 10000, to 2 from there on.
+/* Routes by a price at bytes 4 to 7, big-endian: to 0 below 1000, to 1 below 10000, else to 2.
  *
  * k | item\0\0\3\347 -> 0 k | item\0\0\3\347
  * k | item\0\0\3\350 -> 1 k | item\0\0\3\350

@@ -1,4 +1,4 @@
-/* Keeps the records of one key in ten, by a hash of the key's first 16 bytes.
+/* Keeps one key in ten, by a hash of its first 16 bytes.
  *
  * customer-0 | a -> 0 customer-0 | a
  * customer-17 | a -> nothing */

@@ -1,4 +1,4 @@
-/* A value of 32 bytes is two rows of 16. Emits each as a record, the first to output 0, the second to output 1.
+/* Splits a value of 32 bytes into two records of 16, for outputs 0 and 1.
  *
  * k | first row 16 b..second row 16 b. -> 0 k | first row 16 b.. + 1 k | second row 16 b.
  * k | a -> reject 1 */

@@ -1,4 +1,4 @@
-/* Emits a reading of 8 bytes with its record's timestamp and offset before it, in 24 bytes, little-endian.
+/* Puts the timestamp and the offset before a value of 8 bytes, in 24 bytes, little-endian.
  *
  * k | reading8 at 258 -> 0 k | \2\1\0\0\0\0\0\0\0\0\0\0\0\0\0\0reading8
  * k | r -> reject 1 */

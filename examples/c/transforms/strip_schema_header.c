@@ -1,4 +1,4 @@
-/* A value begins with the 5 bytes of a schema registry: a 0 and a schema's number. Emits what follows them.
+/* Cuts off the 5 bytes of a schema registry: a 0 and a schema's number.
  *
  * k | \0\0\0\0\7payload -> 0 k | payload
  * k | \1\0\0\0\7payload -> reject 1

@@ -1,4 +1,4 @@
-/* Turns records that are older than 2026-01-01 into deletions of their keys, and forwards the others.
+/* Turns records from before 2026-01-01 into deletions of their keys.
  *
  * k | v at 1767225599999 -> 0 k | null
  * k | v at 1767225600000 -> 0 k | v */

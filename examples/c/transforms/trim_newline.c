@@ -1,4 +1,4 @@
-/* Emits a line without the newline at its end. Lines are of up to 200 bytes.
+/* Cuts off the newline of a line of up to 200 bytes.
  *
  * k | line\n -> 0 k | line
  * k | line -> 0 k | line

@@ -1,4 +1,4 @@
-/* A value is four words of 4 bytes. Emits each word once, in the order in which they first come.
+/* Emits each of a value's four words of 4 bytes once, in the order in which they first come.
  *
  * k | aaaabbbb -> reject 1
  * k | aaaabbbbaaaacccc -> 0 k | aaaabbbbcccc

@@ -1,4 +1,4 @@
-/* A value is a name of 32 bytes, padded with spaces. Forwards it if it is UTF-8, and rejects others.
+/* Forwards names of 32 bytes, padded with spaces, that are UTF-8, and rejects others.
  *
  * k | plain and 32 bytes of ASCII, 0-9 -> 0 k | plain and 32 bytes of ASCII, 0-9
  * k | sch\303\266n, na\303\257f, \342\202\254 5, \360\237\230\200 ..... -> 0 k | sch\303\266n, na\303\257f, \342\202\254 5, \360\237\230\200 .....

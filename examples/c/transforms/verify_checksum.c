@@ -1,4 +1,4 @@
-/* A value's last byte, its seventeenth, is the exclusive or of the sixteen before it. Others are rejected.
+/* Rejects values whose seventeenth and last byte is not the exclusive or of the sixteen before it.
  *
  * k | ababababababababX -> reject 2
  * k | ababababababababb -> reject 2
