@@ -207,6 +207,11 @@ def print_files(definitions):
         print(f"{path.relative_to(CRATES)}: {lines_of(here)} lines, from {', '.join(str(it.line) for it in here)}")
 
 
+def link(name, path):
+    """A name that leads to its file from the page, which stands in docs/inside."""
+    return f"[`{name}`](../../crates/{path})"
+
+
 def main():
     if sys.argv[1:] not in ([], ["files"]):
         sys.exit(__doc__)
@@ -218,11 +223,11 @@ def main():
         needed = reader.closure(CRATES / contract, name)
         every |= needed
         lemma_line(lemma_file, lemma)
-        rows.append(f"| {clause} | `{name}` | `crates/{contract}` | `{lemma}` | `crates/{lemma_file}` | {lines_of(needed):,} |")
+        rows.append(f"| {clause} | {link(name, contract)} | {link(lemma, lemma_file)} | {lines_of(needed):,} |")
     if sys.argv[1:]:
         print_files(every)
         return
-    print("| clause | contract | in | main lemma | in | lines to read |\n|---|---|---|---|---|---|")
+    print("| clause | contract | main lemma | lines to read |\n|---|---|---|---|")
     print("\n".join(rows))
     print(f"\nAll clauses together need {lines_of(every):,} lines of {len({it.path for it in every})} files.")
 
