@@ -26,7 +26,7 @@ CHANCE = {
     ("record_parts/proofs/", 4096): "the places that a search looks at",
     ("record_parts/specs/", 4096): "the places that a search looks at",
     ("record_parts/src/finding.rt", 4096): "the places that a search looks at",
-    ("row_batch/src/open.rt", 65536): "from which size on a batch has all its room",
+    ("row_batch/src/front.rt", 65536): "from which size on a batch has all its room",
     ("row_batch/src/records.rt", 4096): "how near to its end a batch is nearly full",
     ("rules/proofs/", 65536): "the bytes of a part that a rule looks at",
     ("rules/specs/", 65536): "the bytes of a part that a rule looks at",
