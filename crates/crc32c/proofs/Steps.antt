@@ -2,7 +2,7 @@
 use Rattle.std.proofs.Common.{◌≡◌, ℕ, suc, ◌+◌, ◌*◌, ◌/◌, ◌%◌, ◌^◌, ◌<◌, List, [], ◌∷◌, ◌++◌, length, get_or, take}
 use Rattle.std.proofs.Common.{refl, sym, arith}
 use Rattle.std.specs.Int.Bits.{bit_and, bit_xor, xor_zero_r, xor_shr, and_mask}
-use Rattle.std.specs.Simd.Lanes.{Each1, number_l}
+use Rattle.std.specs.{Int.w32, Int.from_le_bytes, Simd.Lanes.Each1, Simd.Lanes.number_l}
 use Rattle.std.proofs.{lemmas.Nat.xor_comm, lemmas.List.take_more, lemmas.Simd.Each1-from_get_or}
 use Rattle.wire_spec.specs.Checksum.{remainder, checksum}
 use Rattle.crc32c.specs.Register.{register_after}
@@ -44,6 +44,20 @@ after-number r (x ∷ xs) fits =
     let place : x + 256 * number_l 256 xs ≡ number_l 256 xs * 2 ^ 8 + x = omega arith in
     rw (more, remainder-add 8 n, place, ← remainder-joined 8 r x (number_l 256 xs) fits.0)
     (after-number (remainder 8 (bit_xor r x)) xs fits.1)
+
+-- four bytes as a word
+four-is : (b0 b1 b2 b3 : ℕ) → from_le_bytes w32 (b0 ∷ b1 ∷ b2 ∷ b3 ∷ []) ≡ number_l 256 (b0 ∷ b1 ∷ b2 ∷ b3 ∷ [])
+four-is b0 b1 b2 b3 = omega arith
+
+pub after-four : (r : ℕ) (xs : List ℕ) → length xs ≡ 4 → Each1 (λ b. b < 256) xs
+    → register_after r xs ≡ remainder 32 (bit_xor r (from_le_bytes w32 xs))
+after-four r [] long fits = absurd (omega arith)
+after-four r (b0 ∷ []) long fits = absurd (omega arith)
+after-four r (b0 ∷ b1 ∷ []) long fits = absurd (omega arith)
+after-four r (b0 ∷ b1 ∷ b2 ∷ []) long fits = absurd (omega arith)
+after-four r (b0 ∷ b1 ∷ b2 ∷ b3 ∷ []) long fits =
+    rw (four-is b0 b1 b2 b3) (after-number r (b0 ∷ b1 ∷ b2 ∷ b3 ∷ []) fits)
+after-four r (b0 ∷ b1 ∷ b2 ∷ b3 ∷ b4 ∷ xs) long fits = absurd (omega arith)
 
 -- the register that starts from all ones, inverted
 pub checksum_is : (xs : List ℕ) → ((i : ℕ) → get_or xs i 0 < 256) →

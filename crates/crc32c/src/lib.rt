@@ -40,6 +40,32 @@ fn after_bytes(mut r: u32, bytes: &[u8]) -> u32
     r
 }
 
+// The remainder after four more bytes.
+#[inline(always)]
+fn after_four(r: u32, four: &[u8; 4]) -> u32
+    ensures { result ≡ register_after r four.now }
+{
+    fold_word(r ^ u32::from_le_bytes(*four), 0)
+}
+
+// The remainder after the bytes, four at a time.
+fn after_fours(mut r: u32, fours: &[[u8; 4]]) -> u32
+    ensures { result ≡ register_after r (concat fours.now) }
+{
+    for four in fours {
+        r = after_four(r, four);
+    }
+    r
+}
+
+// The remainder after less than a block, four bytes at a time and then one.
+fn after_rest(r: u32, bytes: &[u8]) -> u32
+    ensures { result ≡ register_after r bytes.now }
+{
+    let (fours, rest) = bytes.as_chunks::<4>();
+    after_bytes(after_fours(r, fours), rest)
+}
+
 // The four words of a block, the first byte of each lowest. A vector's load keeps them words, where
 // one made byte by byte is taken apart into loads of bytes.
 #[inline(always)]
@@ -105,5 +131,5 @@ pub fn sum(bytes: &[u8]) -> u32
     } else {
         after_many(u32::MAX, blocks)
     };
-    after_bytes(r, rest) ^ u32::MAX
+    after_rest(r, rest) ^ u32::MAX
 }
