@@ -1,6 +1,6 @@
 -- Four bytes, and blocks of sixteen, at a time.
-use Rattle.std.proofs.Common.{◌≡◌, ℕ, zero, suc, ◌+◌, ◌*◌, ◌/◌, ◌^◌, ◌<◌, ◌≤◌, List, [], length, get_or, take, drop}
-use Rattle.std.proofs.Common.{refl, sym, ◌∙◌, ap, arith, append-nil, length-take-le, zero-mul}
+use Rattle.std.proofs.Common.{◌≡◌, ℕ, zero, suc, ◌+◌, ◌*◌, ◌/◌, ◌^◌, ◌<◌, ◌≤◌, List, [], ◌∷◌, ◌++◌, length, get_or}
+use Rattle.std.proofs.Common.{take, drop, refl, sym, ◌∙◌, ap, arith, append-nil, length-append, length-take-le, zero-mul}
 use Rattle.std.specs.Int.Bits.{bit_and, bit_xor, xor_assoc, and_mask}
 use Rattle.std.specs.{List.concat, Simd.first_chunks, Simd.Lanes.Each1, Simd.Lanes.chunk}
 use Rattle.std.proofs.{Math.Seq.take-length, Math.Seq.take-add, lemmas.List.take_more, lemmas.List.take-append-drop}
@@ -8,6 +8,7 @@ use Rattle.std.proofs.{lemmas.List.Folds.concat-append, lemmas.Nat.shr-shr, lemm
 use Rattle.std.proofs.lemmas.Simd.{length-chunk}
 use Rattle.wire_spec.specs.Checksum.{remainder}
 use Rattle.crc32c.specs.Register.{register_after, word_at}
+use Rattle.crc32c.specs.Window.{IsBlock, AreBlocks}
 use Rattle.crc32c.proofs.Linear.{remainder-xor, remainder-add, remainder-split, xor_sorted}
 use Rattle.crc32c.proofs.Steps.{after-append, after-number}
 
@@ -70,6 +71,23 @@ pub after-next_block : (r i : ℕ) (xss : List (List ℕ)) → i < length xss
     ≡ register_after (register_after r (concat (take i xss))) (get_or xss i [])
 after-next_block r i xss h = rw (take_more xss i [] h, concat-append, append-nil, after-append)
 
+-- one more block of a list that grows
+pub after-one_more : (r : ℕ) (xss : List (List ℕ)) (block : List ℕ)
+    → register_after r (concat (xss ++ block ∷ [])) ≡ register_after (register_after r (concat xss)) block
+after-one_more r xss block = rw (concat-append, append-nil, after-append)
+
+Each1-append : (P : ℕ → Type 0) (xs ys : List ℕ) → Each1 P xs → Each1 P ys → Each1 P (xs ++ ys)
+Each1-append P [] ys each-x each-y = each-y
+Each1-append P (x ∷ xs) ys each-x each-y = (each-x.0, Each1-append P xs ys each-x.1 each-y)
+
+pub blocks-more : (xss : List (List ℕ)) (block : List ℕ) → AreBlocks xss → IsBlock block
+    → AreBlocks (xss ++ block ∷ [])
+blocks-more xss block are is =
+    let long = length-append (concat xss) block in
+    let more = length-append xss (block ∷ []) in
+    rw (concat-append, append-nil)
+    (omega (arith, long, more, are.0, is.0), Each1-append (λ b. b < 256) (concat xss) block are.1 is.1)
+
 concat-first_chunks : (n k : ℕ) (xs : List ℕ) → concat (first_chunks n k xs) ≡ take (k * n) xs
 concat-first_chunks n zero xs = rw zero-mul
 concat-first_chunks n (suc k) xs =
@@ -82,7 +100,7 @@ length-first_chunks n (suc k) xs = ap suc (length-first_chunks n k (drop n xs))
 
 -- the bytes of the blocks of a list
 pub blocks-are : (k : ℕ) (xs : List ℕ) (blocks : List (List ℕ)) → blocks ≡ first_chunks 16 k xs → k * 16 ≤ length xs
-    → Each1 (λ b. b < 256) xs → (length (concat blocks) ≡ 16 * length blocks) × Each1 (λ b. b < 256) (concat blocks)
+    → Each1 (λ b. b < 256) xs → AreBlocks blocks
 blocks-are k xs blocks e within fits =
     rw (e, concat-first_chunks 16 k xs, length-first_chunks 16 k xs, length-take-le (k * 16) xs within)
     (omega arith, Each1-chunk (λ b. b < 256) 0 (k * 16) xs fits)

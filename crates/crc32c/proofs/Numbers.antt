@@ -4,7 +4,7 @@ use Rattle.std.proofs.Common.{take, drop, replicate, sym, ap, arith, mul_comm, p
 use Rattle.std.proofs.Common.{length-drop, length-take-le, take-append-drop, mul-le-mul_left}
 use Rattle.std.proofs.Math.Nat.{div-div-eq-div-mul, pow-zero, mod-one}
 use Rattle.std.proofs.Math.Arith.{mod-mul}
-use Rattle.std.proofs.lemmas.Nat.{mod_below, div-mul-add, mod-mul-add, xor_block}
+use Rattle.std.proofs.lemmas.Nat.{pow-add, mod_below, div-mul-add, mod-mul-add, xor_block}
 use Rattle.std.proofs.lemmas.Simd.{Each1-chunk}
 use Rattle.std.specs.Int.Bits.{bit_xor}
 use Rattle.std.specs.{Int.byte_at, Int.bytes_low_first, Simd.Lanes.Each1, Simd.Lanes.number_l}
@@ -85,6 +85,12 @@ number_l-xor (x ∷ xs) (y ∷ ys) long fits fits' =
     rw (number_l-xor xs ys (omega arith) fits.1 fits'.1, one, other, xor_block 8 m n x y fits.0 fits'.0) (omega arith)
 
 -- ---- the bytes of a number
+
+pub bytes-bits : (k : ℕ) → 256 ^ k ≡ 2 ^ (8 * k)
+bytes-bits zero = refl
+bytes-bits (suc k) =
+    let more : 8 * suc k ≡ 8 + 8 * k = omega arith in
+    rw (more, pow-add 2 8 (8 * k), ← bytes-bits k, pow-suc 256 k) (omega arith)
 
 byte_at-is : (i n : ℕ) → byte_at i n ≡ n / 256 ^ i % 256
 byte_at-is zero n = ap (λ q. q % 256) (sym (div-one n))

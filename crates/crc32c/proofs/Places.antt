@@ -1,6 +1,6 @@
 -- The window as a part of a longer list.
-use Rattle.std.proofs.Common.{◌≡◌, ℕ, ◌+◌, ◌*◌, ◌/◌, ◌%◌, ◌^◌, ◌<◌, ◌≤◌, List, ◌∷◌, ◌++◌, length, refl}
-use Rattle.std.proofs.Common.{take, drop, replicate, sym, ◌∙◌, ap, arith, div-one, add-zero, mod-eq_of_lt}
+use Rattle.std.proofs.Common.{◌≡◌, ℕ, ◌+◌, ◌*◌, ◌%◌, ◌^◌, ◌<◌, ◌≤◌, List, ◌∷◌, ◌++◌, length, refl}
+use Rattle.std.proofs.Common.{◌-◌, take, drop, replicate, sym, ◌∙◌, ap, arith, div-one, add-zero, zero-add, mod-eq_of_lt}
 use Rattle.std.proofs.Common.{length-drop, length-take-le, take_at, drop_at}
 use Rattle.std.proofs.lemmas.List.{drop-take, take-take, drop-drop, drop-append-le, take-replicate}
 use Rattle.std.proofs.lemmas.{Nat.shr-shr, Nat.xor_lt, List.Edits.take-paste}
@@ -12,9 +12,9 @@ use Rattle.std.specs.Int.Bits.{bit_xor, xor_mod}
 use Rattle.std.specs.Simd.Lanes.{Each1, number_l, chunk, zip2}
 use Rattle.wire_spec.specs.Checksum.{remainder}
 use Rattle.crc32c.specs.Register.{register_after}
-use Rattle.crc32c.specs.Window.{IsBlock, sum_of_five, later, window_behind, window_at, after_window}
+use Rattle.crc32c.specs.Window.{IsBlock, IsMultiple, sum_of_five, later, window_behind, window_at, after_window}
 use Rattle.crc32c.proofs.Numbers.{number_l-append, number_l-below, number_l-chunk, number_l-drop, number_l-none}
-use Rattle.crc32c.proofs.Numbers.{number_l-xor, number_l-bytes}
+use Rattle.crc32c.proofs.Numbers.{number_l-xor, number_l-bytes, bytes-bits}
 use Rattle.crc32c.proofs.{Folding.after_window-next, Folding.after_window-kept, Sparse.sum_of_five-of}
 use Rattle.crc32c.proofs.{Steps.after-number}
 
@@ -60,11 +60,11 @@ six_blocks a b c d e f is-a is-b is-c is-d is-e is-f =
 
 -- ---- the window
 
-pub window_at-below : (place : ℕ) (bytes : List ℕ) → place + 977 ≤ length bytes → Bytes bytes
-    → window_at place bytes < 2 ^ (8 * 977)
-window_at-below place bytes within fits =
-    let each = Each1-chunk (λ b. b < 256) place 977 bytes fits in
-    rw (length-chunk place 977 bytes within) at (number_l-below 256 (chunk place 977 bytes) each)
+pub window_at-below : (n place : ℕ) (bytes : List ℕ) → place + n ≤ length bytes → Bytes bytes
+    → window_at n place bytes < 2 ^ (8 * n)
+window_at-below n place bytes within fits =
+    let each = Each1-chunk (λ b. b < 256) place n bytes fits in
+    rw (length-chunk place n bytes within, bytes-bits n) at (number_l-below 256 (chunk place n bytes) each)
 
 -- a chunk of a chunk
 inner : (place o k m : ℕ) (xs : List ℕ) → k ≤ m → chunk o k (chunk place (o + m) xs) ≡ chunk (place + o) k xs
@@ -72,143 +72,150 @@ inner place o k m xs short =
     rw drop-take (take-take k m (drop o (drop place xs)) short) ∙ ap (take k) (drop-drop o place xs)
 
 -- a block of the window
-window_at-block : (place o m : ℕ) (bytes : List ℕ) → o + m ≡ 977 → 16 ≤ m → place + 977 ≤ length bytes → Bytes bytes
-    → window_at place bytes / 256 ^ o % 256 ^ 16 ≡ number_l 256 (chunk (place + o) 16 bytes)
-window_at-block place o m bytes whole wide within fits =
-    let long = length-chunk place 977 bytes within in
-    let moved : chunk o 16 (chunk place 977 bytes) ≡ chunk (place + o) 16 bytes =
-    rw (← whole) (inner place o 16 m bytes wide) in
-    number_l-chunk 256 o 16 (chunk place 977 bytes) (omega (arith, long))
-    (Each1-chunk (λ b. b < 256) place 977 bytes fits)
-    ∙ ap (number_l 256) moved
+window_at-block : (n place o : ℕ) (bytes : List ℕ) → o + 16 ≤ n → place + n ≤ length bytes → Bytes bytes
+    → later o (window_at n place bytes) % 2 ^ 128 ≡ number_l 256 (chunk (place + o) 16 bytes)
+window_at-block n place o bytes wide within fits =
+    let long = length-chunk place n bytes within in
+    let whole : n ≡ o + (n - o) = omega arith in
+    let inside = inner place o 16 (n - o) bytes (omega arith) in
+    let moved : chunk o 16 (chunk place n bytes) ≡ chunk (place + o) 16 bytes =
+    ap (λ k. chunk o 16 (chunk place k bytes)) whole ∙ inside in
+    let part = rw (bytes-bits o) at (number_l-chunk 256 o 16 (chunk place n bytes) (omega (arith, long))
+    (Each1-chunk (λ b. b < 256) place n bytes fits)) in
+    part ∙ ap (number_l 256) moved
 
 -- what a window adds to the block behind it
-moved-first : (place : ℕ) (bytes : List ℕ) → place + 977 ≤ length bytes → Bytes bytes
-    → window_behind (window_at place bytes) % 2 ^ 128
-    ≡ sum_of_five (number_l 256 (chunk place 16 bytes)) (number_l 256 (chunk (place + 127) 16 bytes))
-    (number_l 256 (chunk (place + 366) 16 bytes)) (number_l 256 (chunk (place + 945) 16 bytes))
-    (number_l 256 (chunk (place + 961) 16 bytes))
+moved-first : {a b c d n : ℕ} → IsMultiple a b c d n → (place : ℕ) (bytes : List ℕ) → place + n ≤ length bytes
+    → Bytes bytes → window_behind a b c d (window_at n place bytes) % 2 ^ 128
+    ≡ sum_of_five (number_l 256 (chunk place 16 bytes)) (number_l 256 (chunk (place + a) 16 bytes))
+    (number_l 256 (chunk (place + b) 16 bytes)) (number_l 256 (chunk (place + c) 16 bytes))
+    (number_l 256 (chunk (place + d) 16 bytes))
 unfolding window_behind
-moved-first place bytes within fits =
-    let w = window_at place bytes in
-    let block = λ (o m : ℕ) (whole : o + m ≡ 977) (wide : 16 ≤ m).
-    window_at-block place o m bytes whole wide within fits
-    in
-    let first = rw (div-one, add-zero) at (block 0 977 refl (omega arith)) in
-    sum_of_five-of (λ v. v % 2 ^ 128) (λ a b. xor_mod a b 128) w (later 127 w) (later 366 w) (later 945 w) (later 961 w)
-    ∙ rw (
-      first,
-      block 127 850 refl (omega arith),
-      block 366 611 refl (omega arith),
-      block 945 32 refl (omega arith),
-      block 961 16 refl (omega arith),
-    ) refl
+moved-first {a} {b} {c} {d} {n} is place bytes within fits =
+    let w = window_at n place bytes in
+    let block = λ (o : ℕ) (wide : o + 16 ≤ n). window_at-block n place o bytes wide within fits in
+    let first = rw (div-one, add-zero) at (block 0 (omega (arith, is.two_blocks))) in
+    sum_of_five-of (λ v. v % 2 ^ 128) (λ v w. xor_mod v w 128) w (later a w) (later b w) (later c w) (later d w)
+    ∙ rw (first, block a (omega arith), block b (omega arith), block c (omega arith), block d (omega arith)) refl
 
 -- the block that is read, with what the window adds to it
-pub folded_is : (place x : ℕ) (space block : List ℕ) → place + 977 ≤ length space → Bytes space → IsBlock block →
-    x ≡ bit_xor (sum_of_five (number_l 256 (chunk place 16 space)) (number_l 256 (chunk (place + 127) 16 space))
-    (number_l 256 (chunk (place + 366) 16 space)) (number_l 256 (chunk (place + 945) 16 space))
-    (number_l 256 (chunk (place + 961) 16 space))) (number_l 256 block) → (r : ℕ) (rest : List (List ℕ)) →
-    after_window r (window_at place space) (block ∷ rest)
-    ≡ after_window (remainder 128 (bit_xor r x)) (later 16 (window_at place space)) rest
-folded_is place x space block within fits is sum r rest =
-    let window = window_at place space in
-    let below = block-below block is in
-    after_window-next r window x block rest is.0 below
-    (rw (xor_mod (window_behind window) _ 128, moved-first place space within fits, mod-eq_of_lt below, sum) refl)
+pub folded_is : {a b c d n : ℕ} → IsMultiple a b c d n → (place x : ℕ) (space block : List ℕ)
+    → place + n ≤ length space → Bytes space → IsBlock block →
+    x ≡ bit_xor (sum_of_five (number_l 256 (chunk place 16 space)) (number_l 256 (chunk (place + a) 16 space))
+    (number_l 256 (chunk (place + b) 16 space)) (number_l 256 (chunk (place + c) 16 space))
+    (number_l 256 (chunk (place + d) 16 space))) (number_l 256 block) → (r : ℕ) (rest : List (List ℕ)) →
+    after_window a b c d r (window_at n place space) (block ∷ rest)
+    ≡ after_window a b c d (remainder 128 (bit_xor r x)) (later 16 (window_at n place space)) rest
+folded_is {a} {b} {c} {d} {n} is place x space block within fits block-is sum r rest =
+    let window = window_at n place space in
+    let below = block-below block block-is in
+    after_window-next a b c d r window x block rest block-is.0 below
+    (rw (xor_mod (window_behind a b c d window) _ 128, moved-first is place space within fits, mod-eq_of_lt below, sum)
+    refl)
 
 -- ---- a block that is stored behind the window
 
 -- where it was, as the bytes up to its end show
 abbrev pub IsStored : ℕ → List ℕ → List ℕ → List ℕ → Type 0
-IsStored place bytes block stored =
-    (length block ≡ 16) × (take (place + 993) stored ≡ take (place + 977) bytes ++ block)
+IsStored end bytes block stored =
+    (length block ≡ 16) × (take (end + 16) stored ≡ take end bytes ++ block)
 
-pub put-stored : (place k : ℕ) (space block now : List ℕ) → place + 993 ≤ length space → now ≡ block
-    → length block ≡ 16 → IsStored place space block (put_mid (place + 977) k space now)
-put-stored place k space block now within e long =
-    (long, rw e (take-put_mid (place + 977) k space block (place + 993) (omega (arith, long)) (omega arith)))
+pub put-stored : (end k : ℕ) (space block now : List ℕ) → end + 16 ≤ length space → now ≡ block
+    → length block ≡ 16 → IsStored end space block (put_mid end k space now)
+put-stored end k space block now within e long =
+    (long, rw e (take-put_mid end k space block (end + 16) (omega (arith, long)) (omega arith)))
 
 -- the window sixteen bytes on
-window_at-next : (place : ℕ) (bytes block stored : List ℕ) → place + 993 ≤ length bytes → Bytes bytes
-    → IsStored place bytes block stored
-    → window_at (place + 16) stored ≡ later 16 (window_at place bytes) + 2 ^ (8 * 961) * number_l 256 block
-window_at-next place bytes block stored within fits is =
-    let front = chunk (place + 16) 961 bytes in
-    let window = chunk place 977 bytes in
-    let room = length-chunk place 977 bytes (omega arith) in
-    let seam : place + 977 ≡ place + 16 + 961 = omega arith in
-    let end : place + 16 + 977 ≡ place + 993 = omega arith in
-    let before : drop (place + 16) (take (place + 977) bytes) ≡ front = rw seam (drop-take (place + 16) 961 bytes) in
-    let behind : chunk (place + 16) 977 stored ≡ front ++ block =
-    sym (drop-take (place + 16) 977 stored) ∙ ap (λ n. drop (place + 16) (take n stored)) end
+window_at-next : (n m place : ℕ) (bytes block stored : List ℕ) → m + 16 ≡ n → place + n + 16 ≤ length bytes
+    → Bytes bytes → IsStored (place + n) bytes block stored
+    → window_at n (place + 16) stored ≡ later 16 (window_at n place bytes) + 2 ^ (8 * m) * number_l 256 block
+window_at-next n m place bytes block stored e within fits is =
+    let front = chunk (place + 16) m bytes in
+    let window = chunk place n bytes in
+    let room = length-chunk place n bytes (omega arith) in
+    let seam : place + n ≡ place + 16 + m = omega arith in
+    let end : place + 16 + n ≡ place + n + 16 = omega arith in
+    let before : drop (place + 16) (take (place + n) bytes) ≡ front =
+    ap (λ k. drop (place + 16) (take k bytes)) seam ∙ drop-take (place + 16) m bytes in
+    let behind : chunk (place + 16) n stored ≡ front ++ block =
+    sym (drop-take (place + 16) n stored) ∙ ap (λ k. drop (place + 16) (take k stored)) end
     ∙ ap (drop (place + 16)) is.1
-    ∙ drop-append-le (place + 16) (take (place + 977) bytes) block
-    (omega (arith, length-take-le (place + 977) bytes (omega arith)))
+    ∙ drop-append-le (place + 16) (take (place + n) bytes) block
+    (omega (arith, length-take-le (place + n) bytes (omega arith)))
     ∙ ap (λ l. l ++ block) before in
-    let kept : later 16 (window_at place bytes) ≡ number_l 256 front =
-    number_l-drop 256 16 window (omega (arith, room)) (Each1-chunk (λ b. b < 256) place 977 bytes fits)
-    ∙ ap (number_l 256) (drop-take 16 961 (drop place bytes) ∙ ap (take 961) (drop-drop 16 place bytes)) in
-    rw (behind, number_l-append 256 front block, length-chunk (place + 16) 961 bytes (omega arith), kept) refl
+    let whole : n ≡ 16 + m = omega arith in
+    let inside : drop 16 window ≡ front =
+    ap (λ k. drop 16 (chunk place k bytes)) whole ∙ drop-take 16 m (drop place bytes)
+    ∙ ap (take m) (drop-drop 16 place bytes) in
+    let kept : later 16 (window_at n place bytes) ≡ number_l 256 front =
+    number_l-drop 256 16 window (omega (arith, room)) (Each1-chunk (λ b. b < 256) place n bytes fits)
+    ∙ ap (number_l 256) inside in
+    let long = length-chunk (place + 16) m bytes (omega arith) in
+    rw (behind, number_l-append 256 front block, long, bytes-bits m, kept) refl
 
 -- a block that is taken away into the window
-pub fold-step : (place : ℕ) (space block taken stored : List ℕ) (rest : List (List ℕ)) → place + 993 ≤ length space →
-    Bytes space → IsBlock taken → IsStored place space taken stored → 977 ≤ 16 * length rest →
-    after_window 0 (window_at place space) (block ∷ rest)
-    ≡ after_window (remainder 128 (number_l 256 taken)) (later 16 (window_at place space)) rest →
-    after_window 0 (window_at (place + 16) stored) rest ≡ after_window 0 (window_at place space) (block ∷ rest)
-fold-step place space block taken stored rest within fits is put long e =
-    let small = window_at-below place space (omega arith) fits in
-    rw (window_at-next place space taken stored within fits put, e)
-    (after_window-kept (window_at place space) (number_l 256 taken) rest (block-below taken is) small long)
+pub fold-step : {a b c d n : ℕ} → IsMultiple a b c d n → (place : ℕ) (space block taken stored : List ℕ)
+    (rest : List (List ℕ)) → place + n + 16 ≤ length space → Bytes space → IsBlock taken
+    → IsStored (place + n) space taken stored → n ≤ 16 * length rest
+    → after_window a b c d 0 (window_at n place space) (block ∷ rest)
+    ≡ after_window a b c d (remainder 128 (number_l 256 taken)) (later 16 (window_at n place space)) rest
+    → after_window a b c d 0 (window_at n (place + 16) stored) rest
+    ≡ after_window a b c d 0 (window_at n place space) (block ∷ rest)
+fold-step {a} {b} {c} {d} {n} is place space block taken stored rest within fits taken-is put long e =
+    let m = n - 16 in
+    let whole : m + 16 ≡ n = omega (arith, is.two_blocks) in
+    let small = window_at-below n place space (omega arith) fits in
+    rw (window_at-next n m place space taken stored whole within fits put, e)
+    (after_window-kept is m (window_at n place space) (number_l 256 taken) rest whole (block-below taken taken-is) small
+    long)
 
--- the window's last two blocks
-pub last-stored : (place : ℕ) (space block stored : List ℕ) → place + 993 ≤ length space
-    → IsStored place space block stored → chunk (place + 977) 16 stored ≡ block
-last-stored place space block stored within is =
-    let m = place + 977 in
-    let end : m + 16 ≡ place + 993 = omega arith in
-    sym (drop-take m 16 stored) ∙ ap (λ n. drop m (take n stored)) end ∙ ap (drop m) is.1
-    ∙ drop_at (take m space) block m (length-take-le m space (omega arith))
+-- the block behind the window, and one before it
+pub last-stored : (end : ℕ) (space block stored : List ℕ) → end + 16 ≤ length space
+    → IsStored end space block stored → chunk end 16 stored ≡ block
+last-stored end space block stored within is =
+    sym (drop-take end 16 stored) ∙ ap (drop end) is.1
+    ∙ drop_at (take end space) block end (length-take-le end space (omega arith))
 
-pub before-stored : (place : ℕ) (space block stored : List ℕ) → place + 993 ≤ length space
-    → IsStored place space block stored → chunk (place + 961) 16 stored ≡ chunk (place + 961) 16 space
-before-stored place space block stored within is =
-    let m = place + 977 in
-    let seam : place + 961 + 16 ≡ m = omega arith in
-    let front : take m stored ≡ take m space =
-    sym (take-take m (place + 993) stored (omega arith)) ∙ ap (take m) is.1
-    ∙ take_at (take m space) block m (length-take-le m space (omega arith)) in
-    sym (drop-take (place + 961) 16 stored) ∙ ap (λ n. drop (place + 961) (take n stored)) seam
-    ∙ ap (drop (place + 961)) front
-    ∙ ap (λ n. drop (place + 961) (take n space)) (sym seam)
-    ∙ drop-take (place + 961) 16 space
+pub before-stored : (end place : ℕ) (space block stored : List ℕ) → end + 16 ≤ length space → place + 16 ≡ end
+    → IsStored end space block stored → chunk place 16 stored ≡ chunk place 16 space
+before-stored end place space block stored within seam is =
+    let front : take end stored ≡ take end space =
+    sym (take-take end (end + 16) stored (omega arith)) ∙ ap (take end) is.1
+    ∙ take_at (take end space) block end (length-take-le end space (omega arith)) in
+    sym (drop-take place 16 stored) ∙ ap (λ k. drop place (take k stored)) seam ∙ ap (drop place) front
+    ∙ ap (λ k. drop place (take k space)) (sym seam)
+    ∙ drop-take place 16 space
 
 -- a window without its first block, and nothing behind it
-pub window_at-emptied : (place : ℕ) (space stored : List ℕ) → place + 993 ≤ length space → Bytes space
-    → IsStored place space (replicate 16 0) stored → window_at (place + 16) stored ≡ later 16 (window_at place space)
-window_at-emptied place space stored within fits is =
+pub window_at-emptied : (n place : ℕ) (space stored : List ℕ) → 16 ≤ n → place + n + 16 ≤ length space → Bytes space
+    → IsStored (place + n) space (replicate 16 0) stored
+    → window_at n (place + 16) stored ≡ later 16 (window_at n place space)
+window_at-emptied n place space stored wide within fits is =
     let none : number_l 256 (replicate 16 0) ≡ 0 = number_l-none 256 16 in
-    window_at-next place space (replicate 16 0) stored within fits is ∙ rw none (omega arith)
+    window_at-next n (n - 16) place space (replicate 16 0) stored (omega arith) within fits is ∙ rw none (omega arith)
 
-pub later-one : (n w : ℕ) → later 16 (later n w) ≡ later (n + 16) w
-later-one n w = let e : 8 * n + 128 ≡ 8 * (n + 16) = omega arith in rw (shr-shr w (8 * n) 128, e)
+pub later-one : (k w : ℕ) → later 16 (later k w) ≡ later (k + 16) w
+later-one k w = let e : 8 * k + 128 ≡ 8 * (k + 16) = omega arith in rw (shr-shr w (8 * k) 128, e)
 
 -- the window at the front again
-pub window_at-front : (n size : ℕ) (space : List ℕ) → size ≡ 977 → n + 977 ≤ length space
-    → window_at 0 (paste space 0 (drop n space) size) ≡ window_at n space
-window_at-front n size space e within =
-    let long = length-drop n space in
-    rw e (ap (number_l 256) (take-paste space 0 (drop n space) 977 (omega arith) (omega (arith, long))))
+pub window_at-front : (n k size : ℕ) (space : List ℕ) → size ≡ n → k + n ≤ length space
+    → window_at n 0 (paste space 0 (drop k space) size) ≡ window_at n k space
+window_at-front n k size space e within =
+    let long = length-drop k space in
+    rw e (ap (λ j. number_l 256 (take j (paste space 0 (drop k space) n))) (sym (zero-add n))
+    ∙ ap (number_l 256) (take-paste space 0 (drop k space) n (omega arith) (omega (arith, long))))
 
 -- a window of a register at its front and nothing else
-pub window_at-register : (r : ℕ) (space : List ℕ) → r < 2 ^ 32 → space ≡ to_le_bytes w32 r ++ replicate 9165 0
-    → window_at 0 space ≡ r
-window_at-register r space below e =
+pub window_at-register : (n k r : ℕ) (space : List ℕ) → r < 2 ^ 32 → 4 ≤ n → n ≤ 4 + k
+    → space ≡ to_le_bytes w32 r ++ replicate k 0 → window_at n 0 space ≡ r
+window_at-register n k r space below wide within e =
     let bytes = to_le_bytes w32 r in
-    let none = take-replicate 973 9165 0 (omega arith) in
-    let front : take 977 (bytes ++ replicate 9165 0) ≡ bytes ++ replicate 973 0 =
-    take-append-add bytes (replicate 9165 0) 973 ∙ ap (λ l. bytes ++ l) none in
+    let j = n - 4 in
+    let none = take-replicate j k 0 (omega arith) in
+    let whole : n ≡ 4 + j = omega arith in
+    let front : take n (bytes ++ replicate k 0) ≡ bytes ++ replicate j 0 =
+    ap (λ i. take i (bytes ++ replicate k 0)) whole ∙ take-append-add bytes (replicate k 0) j
+    ∙ ap (λ l. bytes ++ l) none in
     let number : number_l 256 bytes ≡ r = number_l-bytes 0 4 r ∙ rw div-one (mod-eq_of_lt below) in
-    ap (λ l. number_l 256 (take 977 l)) e ∙ ap (number_l 256) front ∙ number_l-append 256 bytes (replicate 973 0)
-    ∙ rw (number_l-none 256 973, number) (omega arith)
+    ap (λ l. number_l 256 (take n l)) e ∙ ap (number_l 256) front ∙ number_l-append 256 bytes (replicate j 0)
+    ∙ rw (number_l-none 256 j, number) (omega arith)

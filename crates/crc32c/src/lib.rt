@@ -20,7 +20,7 @@ mod window;
 
 use std::simd::prelude::*;
 use tables::entry;
-use window::after_many;
+use window::{after_many, after_some};
 
 // The remainder after one more byte.
 #[inline(always)]
@@ -118,16 +118,21 @@ fn after_blocks(mut r: u32, blocks: &[[u8; 16]]) -> u32
     r
 }
 
-// From how many blocks on it pays to take blocks away over the window: 2 KiB.
-const MANY: usize = 128;
+// From how many blocks on it pays to take blocks away over a window: 640 bytes.
+const SOME: usize = 40;
+
+// And over the longer one first: 8 KiB.
+const MANY: usize = 512;
 
 /// The checksum of the bytes, sixteen at a time by sixteen tables of 1 KiB each. It takes no memory.
 pub fn sum(bytes: &[u8]) -> u32
     ensures { result ≡ checksum bytes.now }
 {
     let (blocks, rest) = bytes.as_chunks::<16>();
-    let r = if blocks.len() < MANY {
+    let r = if blocks.len() < SOME {
         after_blocks(u32::MAX, blocks)
+    } else if blocks.len() < MANY {
+        after_some(u32::MAX, blocks)
     } else {
         after_many(u32::MAX, blocks)
     };

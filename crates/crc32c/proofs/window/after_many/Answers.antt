@@ -1,12 +1,12 @@
-use Rattle.std.proofs.Common.{◌∙◌, ap, arith}
-use Rattle.crc32c.specs.Window.{after_window}
-use Rattle.crc32c.proofs.Folding.{after_window-start}
+use Rattle.std.proofs.Common.{◌∙◌, lit<, lit≤}
+use Rattle.crc32c.proofs.Folding.{after_window-none}
+use Rattle.crc32c.proofs.Sparse.{far_multiple}
 use Rattle.crc32c.proofs.window.after_many.Goals as goal
 
-pub loop-blocks-init : goal.loop-blocks-init
-loop-blocks-init c =
-    record {
-      left = ap (λ w. after_window 0 w c.args.blocks.now) c.put_register.ensures
-          ∙ after_window-start c.args.r c.args.blocks.now (omega arith);
-      enough = omega arith;
-    }
+pub shortened-requires : goal.shortened-requires
+shortened-requires c = (lit< tt, (far_multiple, (lit≤ tt, (lit≤ tt, (lit≤ tt, c.requires)))))
+
+pub returns : goal.returns
+returns c =
+    let are = c.shortened.ensures.blocks in
+    c.after_some.ensures ∙ after_window-none 14 39 54 144 0 c.shortened.result are.0 are.1 ∙ c.shortened.ensures.sum
