@@ -1,6 +1,7 @@
 -- Four bytes, and blocks of sixteen, at a time.
-use Rattle.std.proofs.Common.{◌≡◌, ℕ, zero, suc, ◌+◌, ◌*◌, ◌/◌, ◌^◌, ◌<◌, ◌≤◌, List, [], ◌∷◌, ◌++◌, length, get_or}
-use Rattle.std.proofs.Common.{take, drop, refl, sym, ◌∙◌, ap, arith, append-nil, length-append, length-take-le, zero-mul}
+use Rattle.std.proofs.Common.{◌≡◌, ℕ, zero, suc, ◌+◌, ◌*◌, ◌/◌, ◌^◌, ◌<◌, ◌≤◌, List, [], ◌∷◌, ◌++◌, length, take}
+use Rattle.std.proofs.Common.{get_or, drop, refl, sym, ◌∙◌, ap, arith, append-nil, length-append}
+use Rattle.std.proofs.Common.{length-take-le, zero-mul}
 use Rattle.std.specs.Int.Bits.{bit_and, bit_xor, xor_assoc, and_mask}
 use Rattle.std.specs.{List.concat, Simd.first_chunks, Simd.Lanes.Each1, Simd.Lanes.chunk}
 use Rattle.std.proofs.{Math.Seq.take-length, Math.Seq.take-add, lemmas.List.take_more, lemmas.List.take-append-drop}

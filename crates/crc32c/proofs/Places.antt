@@ -1,7 +1,7 @@
 -- The window as a part of a longer list.
 use Rattle.std.proofs.Common.{◌≡◌, ℕ, ◌+◌, ◌*◌, ◌%◌, ◌^◌, ◌<◌, ◌≤◌, List, ◌∷◌, ◌++◌, length, refl}
-use Rattle.std.proofs.Common.{◌-◌, take, drop, replicate, sym, ◌∙◌, ap, arith, div-one, add-zero, zero-add, mod-eq_of_lt}
-use Rattle.std.proofs.Common.{length-drop, length-take-le, take_at, drop_at}
+use Rattle.std.proofs.Common.{◌-◌, take, drop, replicate, sym, ◌∙◌, ap, arith, div-one, add-zero, zero-add}
+use Rattle.std.proofs.Common.{mod-eq_of_lt, length-drop, length-take-le, take_at, drop_at}
 use Rattle.std.proofs.lemmas.List.{drop-take, take-take, drop-drop, drop-append-le, take-replicate}
 use Rattle.std.proofs.lemmas.{Nat.shr-shr, Nat.xor_lt, List.Edits.take-paste}
 use Rattle.std.proofs.{Math.Seq.paste, Math.Seq.take-append-add, lemmas.Slice.take-put_mid}
