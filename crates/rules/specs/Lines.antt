@@ -17,7 +17,7 @@ pub record Line : Type 0 where
 
 -- a condition that lies in memory
 abbrev pub formula_of : Condition → Formula
-formula_of (condition.Test t) = Single t
+formula_of (condition.Test t) = Single t.value
 formula_of (condition.Not' p inner) = Negated (formula_of inner)
 formula_of (condition.And' p one q other) = Both (formula_of one) (formula_of other)
 formula_of (condition.Or' p one q other) = Either (formula_of one) (formula_of other)

@@ -102,8 +102,8 @@ pub enum Test {
 /// When a rule takes a record.
 #[derive(Drop)]
 pub enum Condition {
-    /// One test.
-    Test(Test),
+    /// One test, in memory of its own: so conditions are small.
+    Test(Box<Test>),
     /// `not CONDITION`.
     Not(Box<Condition>),
     /// `CONDITION and CONDITION`.

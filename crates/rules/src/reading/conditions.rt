@@ -2,7 +2,7 @@
 
 ghost use Rattle.std.specs.Prelude.{◌≡◌, codes, IfOk};
 ghost use Rattle.wire_spec.specs.Memory.{AnswersAs};
-ghost use Rattle.rules.specs.Lines.{formula_of, Both, Either};
+ghost use Rattle.rules.specs.Lines.{formula_of, Negated, Both, Either};
 ghost use Rattle.rules.specs.declared.fault.LineFault.TheVariants as faults;
 ghost use Rattle.rules.specs.declared.level.Level.TheVariants as level;
 ghost use Rattle.rules.specs.Reading as definitions;
@@ -13,30 +13,54 @@ use crate::rule::Condition;
 use crate::scan::{after_sign, after_word, sign_expected, skipped};
 use std::alloc::{AllocError, Global};
 
-/// Two conditions with `or` between them.
-fn either(alloc: Global, first: Condition, second: Condition) -> Result<Condition, AllocError>
-    ensures { IfOk result (λ c. formula_of c ≡ Either (formula_of first) (formula_of second)) }
+/// A condition in memory of its own: so a condition in others is read with little of the stack.
+#[inline(never)]
+fn boxed(alloc: Global, condition: Condition) -> Result<Box<Condition>, AllocError>
+    ensures { IfOk result (λ made. made.value ≡ condition) }
 {
-    match (Box::new(alloc, first), Box::new(alloc, second)) {
-        (Ok(first), Ok(second)) => Ok(Condition::Or(first, second)),
-        _ => Err(AllocError),
-    }
+    Ok(Box::new(alloc, condition)?)
+}
+
+/// Two conditions with `or` between them.
+#[inline(never)]
+fn either(
+    alloc: Global,
+    first: Box<Condition>,
+    second: Box<Condition>,
+) -> Result<Box<Condition>, AllocError>
+    ensures { IfOk result (λ c. formula_of c.value ≡ Either (formula_of first.value) (formula_of second.value)) }
+{
+    boxed(alloc, Condition::Or(first, second))
 }
 
 /// Two conditions with `and` between them.
-fn both(alloc: Global, first: Condition, second: Condition) -> Result<Condition, AllocError>
-    ensures { IfOk result (λ c. formula_of c ≡ Both (formula_of first) (formula_of second)) }
+#[inline(never)]
+fn both(
+    alloc: Global,
+    first: Box<Condition>,
+    second: Box<Condition>,
+) -> Result<Box<Condition>, AllocError>
+    ensures { IfOk result (λ c. formula_of c.value ≡ Both (formula_of first.value) (formula_of second.value)) }
 {
-    match (Box::new(alloc, first), Box::new(alloc, second)) {
-        (Ok(first), Ok(second)) => Ok(Condition::And(first, second)),
-        _ => Err(AllocError),
-    }
+    boxed(alloc, Condition::And(first, second))
+}
+
+/// What `not` makes of a condition.
+#[inline(never)]
+fn negated(alloc: Global, inner: Box<Condition>) -> Result<Box<Condition>, AllocError>
+    ensures { IfOk result (λ c. formula_of c.value ≡ Negated (formula_of inner.value)) }
+{
+    boxed(alloc, Condition::Not(inner))
 }
 
 /// Conditions with `or` between them, read in so many steps at most, and what follows them.
 #[cycle(conditions)]
-pub fn any_at(alloc: Global, steps: usize, text: &[u8]) -> Result<(Condition, &[u8]), LineFault>
-    ensures { AnswersAs faults.Memory (λ x. (formula_of x.0, x.1.now)) result (definitions.condition_at steps level.Any text.now) }
+pub fn any_at(
+    alloc: Global,
+    steps: usize,
+    text: &[u8],
+) -> Result<(Box<Condition>, &[u8]), LineFault>
+    ensures { AnswersAs faults.Memory (λ x. (formula_of x.0.value, x.1.now)) result (definitions.condition_at steps level.Any text.now) }
 {
     if steps == 0 {
         return Err(LineFault::Deep(skipped(text).len()));
@@ -50,10 +74,10 @@ pub fn any_at(alloc: Global, steps: usize, text: &[u8]) -> Result<(Condition, &[
 fn any_after<'a>(
     alloc: Global,
     steps: usize,
-    first: Condition,
+    first: Box<Condition>,
     text: &'a [u8],
-) -> Result<(Condition, &'a [u8]), LineFault>
-    ensures { AnswersAs faults.Memory (λ x. (formula_of x.0, x.1.now)) result (definitions.joined (codes "or") Either (definitions.condition_at steps level.Any) (formula_of first, text.now)) }
+) -> Result<(Box<Condition>, &'a [u8]), LineFault>
+    ensures { AnswersAs faults.Memory (λ x. (formula_of x.0.value, x.1.now)) result (definitions.joined (codes "or") Either (definitions.condition_at steps level.Any) (formula_of first.value, text.now)) }
 {
     let Some(rest) = after_word(text, b"or") else {
         return Ok((first, text));
@@ -64,8 +88,8 @@ fn any_after<'a>(
 
 /// Conditions with `and` between them.
 #[cycle(conditions)]
-fn all_at(alloc: Global, steps: usize, text: &[u8]) -> Result<(Condition, &[u8]), LineFault>
-    ensures { AnswersAs faults.Memory (λ x. (formula_of x.0, x.1.now)) result (definitions.condition_at steps level.All text.now) }
+fn all_at(alloc: Global, steps: usize, text: &[u8]) -> Result<(Box<Condition>, &[u8]), LineFault>
+    ensures { AnswersAs faults.Memory (λ x. (formula_of x.0.value, x.1.now)) result (definitions.condition_at steps level.All text.now) }
 {
     if steps == 0 {
         return Err(LineFault::Deep(skipped(text).len()));
@@ -79,10 +103,10 @@ fn all_at(alloc: Global, steps: usize, text: &[u8]) -> Result<(Condition, &[u8])
 fn all_after<'a>(
     alloc: Global,
     steps: usize,
-    first: Condition,
+    first: Box<Condition>,
     text: &'a [u8],
-) -> Result<(Condition, &'a [u8]), LineFault>
-    ensures { AnswersAs faults.Memory (λ x. (formula_of x.0, x.1.now)) result (definitions.joined (codes "and") Both (definitions.condition_at steps level.All) (formula_of first, text.now)) }
+) -> Result<(Box<Condition>, &'a [u8]), LineFault>
+    ensures { AnswersAs faults.Memory (λ x. (formula_of x.0.value, x.1.now)) result (definitions.joined (codes "and") Both (definitions.condition_at steps level.All) (formula_of first.value, text.now)) }
 {
     let Some(rest) = after_word(text, b"and") else {
         return Ok((first, text));
@@ -93,8 +117,8 @@ fn all_after<'a>(
 
 /// One condition: `not` and what it denies, one in parentheses, or a test.
 #[cycle(conditions)]
-fn one_at(alloc: Global, steps: usize, text: &[u8]) -> Result<(Condition, &[u8]), LineFault>
-    ensures { AnswersAs faults.Memory (λ x. (formula_of x.0, x.1.now)) result (definitions.condition_at steps level.One text.now) }
+fn one_at(alloc: Global, steps: usize, text: &[u8]) -> Result<(Box<Condition>, &[u8]), LineFault>
+    ensures { AnswersAs faults.Memory (λ x. (formula_of x.0.value, x.1.now)) result (definitions.condition_at steps level.One text.now) }
 {
     if steps == 0 {
         return Err(LineFault::Deep(skipped(text).len()));
@@ -110,18 +134,25 @@ fn one_at(alloc: Global, steps: usize, text: &[u8]) -> Result<(Condition, &[u8])
 
 /// What `not` denies.
 #[cycle(conditions)]
-fn negated_at(alloc: Global, steps: usize, text: &[u8]) -> Result<(Condition, &[u8]), LineFault>
-    ensures { AnswersAs faults.Memory (λ x. (formula_of x.0, x.1.now)) result (definitions.negated_at (definitions.condition_at steps level.One) text.now) }
+fn negated_at(
+    alloc: Global,
+    steps: usize,
+    text: &[u8],
+) -> Result<(Box<Condition>, &[u8]), LineFault>
+    ensures { AnswersAs faults.Memory (λ x. (formula_of x.0.value, x.1.now)) result (definitions.negated_at (definitions.condition_at steps level.One) text.now) }
 {
     let (inner, rest) = one_at(alloc, steps, text)?;
-    let inner = Box::new(alloc, inner)?;
-    Ok((Condition::Not(inner), rest))
+    Ok((negated(alloc, inner)?, rest))
 }
 
 /// A condition in parentheses, of which the first is read.
 #[cycle(conditions)]
-fn enclosed_at(alloc: Global, steps: usize, text: &[u8]) -> Result<(Condition, &[u8]), LineFault>
-    ensures { AnswersAs faults.Memory (λ x. (formula_of x.0, x.1.now)) result (definitions.enclosed_at (definitions.condition_at steps level.Any) text.now) }
+fn enclosed_at(
+    alloc: Global,
+    steps: usize,
+    text: &[u8],
+) -> Result<(Box<Condition>, &[u8]), LineFault>
+    ensures { AnswersAs faults.Memory (λ x. (formula_of x.0.value, x.1.now)) result (definitions.enclosed_at (definitions.condition_at steps level.Any) text.now) }
 {
     let (inner, rest) = any_at(alloc, steps, text)?;
     let rest = sign_expected(rest, b")")?;
@@ -129,9 +160,11 @@ fn enclosed_at(alloc: Global, steps: usize, text: &[u8]) -> Result<(Condition, &
 }
 
 /// A test.
-fn single_at(alloc: Global, text: &[u8]) -> Result<(Condition, &[u8]), LineFault>
-    ensures { AnswersAs faults.Memory (λ x. (formula_of x.0, x.1.now)) result (definitions.single_at text.now) }
+#[inline(never)]
+fn single_at(alloc: Global, text: &[u8]) -> Result<(Box<Condition>, &[u8]), LineFault>
+    ensures { AnswersAs faults.Memory (λ x. (formula_of x.0.value, x.1.now)) result (definitions.single_at text.now) }
 {
     let (test, rest) = test_at(alloc, text)?;
-    Ok((Condition::Test(test), rest))
+    let test = Box::new(alloc, test)?;
+    Ok((boxed(alloc, Condition::Test(test))?, rest))
 }

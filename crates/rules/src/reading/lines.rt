@@ -26,7 +26,7 @@ fn when_at(alloc: Global, text: &[u8]) -> Result<(Option<Condition>, &[u8]), Lin
         return Ok((None, text));
     };
     let (condition, rest) = any_at(alloc, MAX_STEPS, rest)?;
-    Ok((Some(condition), rest))
+    Ok((Some(Box::into_inner(condition)), rest))
 }
 
 /// The rule of a whole line.

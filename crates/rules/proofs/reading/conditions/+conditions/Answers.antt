@@ -18,7 +18,7 @@ any_at-returns-in_err-first t c =
 
 pub any_at-returns : goal.any_at-returns
 any_at-returns t c =
-    rw (any_goes_on c.args.steps c.args.text.now c.in_ok-first.rest.now (formula_of c.in_ok-first.first) (omega arith)
+    rw (any_goes_on c.args.steps c.args.text.now c.in_ok-first.rest.now (formula_of c.in_ok-first.first.value) (omega arith)
     c.in_ok-first.ensures) c.any_after.ensures
 
 pub all_at-returns-then-steps-eq0 : goal.all_at-returns-then-steps-eq0
@@ -33,7 +33,7 @@ all_at-returns-in_err-first t c =
 
 pub all_at-returns : goal.all_at-returns
 all_at-returns t c =
-    rw (all_goes_on c.args.steps c.args.text.now c.in_ok-first.rest.now (formula_of c.in_ok-first.first) (omega arith)
+    rw (all_goes_on c.args.steps c.args.text.now c.in_ok-first.rest.now (formula_of c.in_ok-first.first.value) (omega arith)
     c.in_ok-first.ensures) c.all_after.ensures
 
 pub one_at-returns-then-steps-eq0 : goal.one_at-returns-then-steps-eq0
