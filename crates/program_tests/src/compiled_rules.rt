@@ -217,6 +217,20 @@ static CONDITIONS: &str = "\
 - ff*8 | u64be(value, 0) > 9223372036854775808 | yes
 - ff*8 | u64be(value, 0) < 2147483648 | no
 - ff*7 | u64be(value, 0) >= 0 | no
+- ff*7 | u64be(value, 0) != 1 | no
+- 000003e7 | u32be(value, 0) < 1000 | yes
+- 000003e8 | u32be(value, 0) < 1000 | no
+- 000003e8 | u32be(value, 0) <= 1000 | yes
+- 000003e8 | u32be(value, 0) != 1000 | no
+- 01000000 | u32be(value, 0) != 1 | yes
+- 7fffffff | u32be(value, 0) >= 2147483647 | yes
+- 80000000 | u32be(value, 0) > 2147483647 | yes
+- 80000000 | u32be(value, 0) = 2147483648 | yes
+# a load names each of these bytes, and not each of those in the next row
+- 00*32760+0102030405060708 | u64be(value, 32760) = 72623859790382856 | yes
+- 00*32761+0102030405060708 | u64be(value, 32761) = 72623859790382856 | yes
+- 00*32766+0102 | u16be(value, 32766) = 258 | yes
+- 00*32767+0102 | u16be(value, 32767) = 258 | yes
 - 00*1048575+07 | byte(value, 1048575) = 7 | yes
 - 00*1048575+07 | byte(value, 1048576) >= 0 | no
 31303030 - | decimal(key, 0, 4) >= 1000 | yes
@@ -273,6 +287,10 @@ static SLOTS: &str = "\
 # 198 slots a rule
 82 | drop when value has \"a\" | 16240
 83 | drop when value has \"a\" | rule 83: E9 Slots
+# bytes of the value one by one, where the highest comes first
+1 | drop when u32le(value, 4) < 1000 | 13
+1 | drop when u32be(value, 4) < 1000 | 22
+1 | drop when u32be(value, 4) < 2147483648 | 28
 # a word of each text, and 9 slots more
 1 | output 1 and header \"a\" = \"b\" | 18
 ";

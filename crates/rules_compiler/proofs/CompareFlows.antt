@@ -38,6 +38,12 @@ use Rattle.verifier_spec.proofs.Narrowing.{is_edge_within, narrowed_inside}
 use Rattle.verifier_spec.specs.{Intervals.narrowed_interval}
 use Rattle.std.proofs.lemmas.Bool.{and_parts, leb-true}
 use Rattle.rules_compiler.proofs.ValueFlows.{ranged_within}
+use Rattle.rules_compiler.proofs.NumberFlows.{number_compare_flow}
+use Rattle.rules_compiler.specs.Tests.{value_compare_code, is_at_hand}
+use Rattle.rules_compiler.specs.Terms.{is_near}
+use Rattle.rules_compiler.specs.declared.values.TheConstants.{REACH}
+use Rattle.rules.specs.Meaning.{layout_size}
+use Rattle.std.proofs.Common.{◌+◌}
 
 -- ---- numbers
 
@@ -155,4 +161,10 @@ unfolding compare_code value_length_code
 compare_flow (term.Length part.Value) how n fits = cond_both (is_plain how n) (value_length_code how n)
     (term_compare_code (term.Length part.Value) how n) (λ code. Flow code settled decided)
     (λ plain. length_flow_of (test_of how) n) (λ other. term_compare_flow (term.Length part.Value) how n fits)
+compare_flow (term.Number layout part.Value place) how n fits = cond_both (is_at_hand layout place n)
+    (value_compare_code layout place how n) (term_compare_code (term.Number layout part.Value place) how n)
+    (λ code. Flow code settled decided)
+    (λ at. number_compare_flow layout place how n
+    (leb-true (place + layout_size layout) REACH (and_parts (is_near layout place) (nat_lt n (2 ^ 31)) at).0))
+    (λ other. term_compare_flow (term.Number layout part.Value place) how n fits)
 compare_flow t how n fits = term_compare_flow t how n fits

@@ -1,5 +1,12 @@
 -- What the code of tests and conditions does.
 use Rattle.rules_compiler.specs.Tests.{is_plain, value_length_code, term_compare_code}
+use Rattle.rules_compiler.specs.Tests.{value_truth_code, value_compare_code, is_at_hand}
+use Rattle.rules_compiler.specs.Terms.{is_near}
+use Rattle.rules_compiler.specs.declared.values.TheConstants.{REACH}
+use Rattle.rules_compiler.proofs.NumberEffects.{compare_number_decides}
+use Rattle.rules.specs.declared.rule.{Layout.Layout}
+use Rattle.rules.specs.Meaning.{in_bytes, number_at, layout_size}
+use Rattle.std.proofs.lemmas.Bool.{leb-true}
 use Rattle.std.proofs.Common.{option_map}
 use Rattle.std.proofs.lemmas.Bool.{and_parts}
 use Rattle.rules.specs.declared.rule.Term.TheVariants as term
@@ -182,18 +189,27 @@ plain_is None how n e = e
 plain_is (Some bytes) how n e = refl
 
 module _ (input : Input) (how : Comparison) (n : ℕ) where
-  length_cleared : (t : State) (a : ℕ) (b : Bool) → Ready input t → t.registers 8 ≡ Number 1 → t.registers 7 ≡ Number a →
-      n < 2 ^ 31 → compares how a n ≡ b → Decides input (Unless (test_of how) 7 (Immediate (pos n)) (Plain (set 8 (pos 0) ∷ []))) t b
+  cleared_by : (register : ℕ) (t : State) (a : ℕ) (b : Bool) → Ready input t → t.registers 8 ≡ Number 1 →
+      t.registers register ≡ Number a → n < 2 ^ 31 → compares how a n ≡ b →
+      Decides input (Unless (test_of how) register (Immediate (pos n)) (Plain (set 8 (pos 0) ∷ []))) t b
   unfolding state_after
-  length_cleared t a true ready truth long small is =
+  cleared_by register t a true ready truth number small is =
       let imm = small_immediate n small in
-      skip_decides input (test_of how) 7 (Immediate (pos n)) (Plain (set 8 (pos 0) ∷ [])) t true
-      (rw (long, imm) (taken_is how a n ∙ is)) ready truth
-  length_cleared t a false ready truth long small is =
+      skip_decides input (test_of how) register (Immediate (pos n)) (Plain (set 8 (pos 0) ∷ [])) t true
+      (rw (number, imm) (taken_is how a n ∙ is)) ready truth
+  cleared_by register t a false ready truth number small is =
       let imm = small_immediate n small in
-      enter_decides input (test_of how) 7 (Immediate (pos n)) (Plain (set 8 (pos 0) ∷ [])) t false
-      (rw (long, imm) (taken_is how a n ∙ is))
+      enter_decides input (test_of how) register (Immediate (pos n)) (Plain (set 8 (pos 0) ∷ [])) t false
+      (rw (number, imm) (taken_is how a n ∙ is))
       (list_decides input (set 8 (pos 0) ∷ []) (goes_to t (t.slot + 1)) false (assumption ready) refl)
+
+  truth_decides : n < 2 ^ 31 → (s : State) (a : ℕ) → Ready input s → s.registers 0 ≡ Number a →
+      Decides input (value_truth_code how n) s (compares how a n)
+  unfolding value_truth_code state_after
+  truth_decides small s a ready answer =
+      let t = run_list input (set 8 (pos 1) ∷ []) s in
+      then_decides input (Plain (set 8 (pos 1) ∷ [])) (Unless (test_of how) 0 (Immediate (pos n)) (Plain (set 8 (pos 0) ∷ []))) s t
+      (compares how a n) refl (cleared_by 0 t a (compares how a n) (assumption ready) refl answer small refl)
 
   length_compares : is_plain how n ≡ true → (s : State) → Ready input s →
       Decides input (value_length_code how n) s (compares_if how (option_map length input.given.value) n)
@@ -204,7 +220,7 @@ module _ (input : Input) (how : Comparison) (n : ℕ) where
       let is = plain_is input.given.value how n (no_so (compares how 0 n) both.0) in
       then_decides input (Plain (set 8 (pos 1) ∷ [])) (Unless (test_of how) 7 (Immediate (pos n)) (Plain (set 8 (pos 0) ∷ []))) s t
       (compares_if how (option_map length input.given.value) n) refl
-      (length_cleared t (length (unwrap_or input.given.value [])) (compares_if how (option_map length input.given.value) n)
+      (cleared_by 7 t (length (unwrap_or input.given.value [])) (compares_if how (option_map length input.given.value) n)
       (assumption ready) refl ready.length_is (ltb-true n (2 ^ 31) both.1) is)
 
 module _ (input : Input) (given : IsInput input) where
@@ -217,6 +233,15 @@ module _ (input : Input) (given : IsInput input) where
       then_decides input (term_code t) (Unless jumps.Equal 8 (Immediate (pos 0)) (comparing_code how n)) s v.state
       (compares_if how (term_value t input.given input.place) n) v.runs d
 
+  near_decides : (layout : Layout) (place : ℕ) (how : Comparison) (n : ℕ) → is_at_hand layout place n ≡ true → (s : State) →
+      Ready input s → Decides input (value_compare_code layout place how n) s
+      (compares_if how (in_bytes (number_at layout place) input.given.value) n)
+  unfolding value_compare_code
+  near_decides layout place how n at s ready =
+      let both = and_parts (is_near layout place) (nat_lt n (2 ^ 31)) at in
+      compare_number_decides input given s ready layout place (leb-true (place + layout_size layout) REACH both.0) how n
+      (value_truth_code how n) (λ u a r is. truth_decides input how n (ltb-true n (2 ^ 31) both.1) u a r is)
+
   compare_decides : (t : Term) (how : Comparison) (n : ℕ) → FitsTerm IsText t → n < 2 ^ 64 → (s : State) →
       Ready input s → Decides input (compare_code t how n) s (compares_if how (term_value t input.given input.place) n)
   unfolding compare_code
@@ -225,6 +250,11 @@ module _ (input : Input) (given : IsInput input) where
       (λ code. Decides input code s (compares_if how (option_map length input.given.value) n))
       (λ plain. length_compares input how n plain s ready)
       (λ other. term_compare_decides (term.Length part.Value) how n fits small s ready)
+  compare_decides (term.Number layout part.Value place) how n fits small s ready = cond_both (is_at_hand layout place n)
+      (value_compare_code layout place how n) (term_compare_code (term.Number layout part.Value place) how n)
+      (λ code. Decides input code s (compares_if how (in_bytes (number_at layout place) input.given.value) n))
+      (λ at. near_decides layout place how n at s ready)
+      (λ other. term_compare_decides (term.Number layout part.Value place) how n fits small s ready)
   compare_decides t how n fits small s ready = term_compare_decides t how n fits small s ready
 
   test_decides : (t : Tests) → FitsTest IsText t → (s : State) → Ready input s →

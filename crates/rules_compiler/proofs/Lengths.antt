@@ -21,6 +21,12 @@ use Rattle.rules_compiler.specs.declared.pieces.TheConstants.{ANSWER, LENGTH, TR
 use Rattle.rules_compiler.specs.{Pieces.set, Pieces.change}
 use Rattle.rules_compiler.specs.Faults.{IsTooLong, IsRefusedAt, IsFirstAfter, AreRefusedAfter, AreRefused}
 use Rattle.rules_compiler.specs.Tests.{match_byte, match_code, value_test_code, test_code, searches_code}
+use Rattle.rules_compiler.specs.Tests.{compare_block, compare_list}
+use Rattle.rules_compiler.specs.Terms.{more_of, append_byte, more_code, read_code, value_number_code}
+use Rattle.rules.specs.declared.rule.{Layout.Layout}
+use Rattle.rules.specs.Meaning.{layout_size}
+use Rattle.std.proofs.Common.{ℤ}
+use Rattle.std.proofs.lemmas.List.{append-nil}
 use Rattle.rules_compiler.specs.Rules.{condition_code, line_code, lines_code, body_of, code_of}
 use Rattle.rules_compiler.specs.declared.searches.TheConstants.{PLACES}
 
@@ -80,6 +86,77 @@ value_test_is front text how =
     (instructions (match_code text 0))
     ∙ ap (λ (n : ℕ). front ++ (set TRUTH (pos 0) ∷ JumpIf Bits64 how LENGTH (Immediate (pos (length text))) (pos n)
     ∷ instructions (match_code text 0))) (sym (match_length text 0))
+
+-- ---- numbers in the value
+
+pub more_length : (count place : ℕ) → length (instructions (more_code place count)) ≡ 3 * count
+unfolding more_code
+more_length zero place = refl
+more_length (suc count) place = omega (arith, more_length count (place + 1))
+
+pub more_step : (front code next : List Instruction) (place count k : ℕ) → k < count →
+    front ≡ code ++ instructions (more_code (place + k) (count - k)) → next ≡ code ++ append_byte (place + k) →
+    front ≡ next ++ instructions (more_code (place + (k + 1)) (count - (k + 1)))
+unfolding more_code
+more_step front code next place count k low so_far more =
+    let left : count - k ≡ suc (count - (k + 1)) = omega arith in
+    let at : place + k + 1 ≡ place + (k + 1) = omega arith in
+    let rest = instructions (more_code (place + (k + 1)) (count - (k + 1))) in
+    so_far ∙ ap (λ (n : ℕ). code ++ instructions (more_code (place + k) n)) left
+    ∙ ap (λ (n : ℕ). code ++ (append_byte (place + k) ++ instructions (more_code n (count - (k + 1))))) at
+    ∙ sym (append_assoc code (append_byte (place + k)) rest)
+    ∙ ap (λ (l : List Instruction). l ++ rest) (sym more)
+
+pub more_end : (front code : List Instruction) (place count k : ℕ) → count ≤ k →
+    front ≡ code ++ instructions (more_code (place + k) (count - k)) → code ≡ front
+unfolding more_code
+more_end front code place count k past so_far =
+    let left : count - k ≡ 0 = omega arith in
+    sym (so_far ∙ ap (λ (n : ℕ). code ++ instructions (more_code (place + k) n)) left ∙ append-nil code)
+
+read_length : (layout : Layout) (place : ℕ) → length (instructions (read_code layout place)) ≡ 3 * more_of layout + 1
+unfolding read_code
+read_length layout place = omega (arith, more_length (more_of layout) (place + 1))
+
+pub value_number_is : (front : List Instruction) (layout : Layout) (place : ℕ) →
+    ((front ++ set ANSWER (pos 0) ∷ set TRUTH (pos 0) ∷ JumpIf Bits64 jumps.Less LENGTH
+    (Immediate (pos (place + layout_size layout))) (pos (3 * more_of layout + 2)) ∷ [])
+    ++ instructions (read_code layout place)) ++ set TRUTH (pos 1) ∷ []
+    ≡ front ++ instructions (value_number_code layout place)
+unfolding value_number_code
+value_number_is front layout place =
+    let read = instructions (read_code layout place) in
+    let long : 3 * more_of layout + 2 ≡ length (instructions (read_code layout place) ++ set TRUTH (pos 1) ∷ []) =
+    omega (arith, read_length layout place, length-append (instructions (read_code layout place)) (set TRUTH (pos 1) ∷ [])) in
+    append_assoc (front ++ set ANSWER (pos 0) ∷ set TRUTH (pos 0) ∷ JumpIf Bits64 jumps.Less LENGTH
+    (Immediate (pos (place + layout_size layout))) (pos (3 * more_of layout + 2)) ∷ []) read (set TRUTH (pos 1) ∷ [])
+    ∙ append_assoc front (set ANSWER (pos 0) ∷ set TRUTH (pos 0) ∷ JumpIf Bits64 jumps.Less LENGTH
+    (Immediate (pos (place + layout_size layout))) (pos (3 * more_of layout + 2)) ∷ []) (read ++ set TRUTH (pos 1) ∷ [])
+    ∙ ap (λ (n : ℕ). front ++ (set ANSWER (pos 0) ∷ set TRUTH (pos 0) ∷ JumpIf Bits64 jumps.Less LENGTH
+    (Immediate (pos (place + layout_size layout))) (pos n) ∷ (read ++ set TRUTH (pos 1) ∷ []))) long
+
+pub value_compare_is : (front : List Instruction) (layout : Layout) (place : ℕ) (how : Test) (number : ℤ) →
+    ((front ++ set TRUTH (pos 0) ∷ JumpIf Bits64 jumps.Less LENGTH (Immediate (pos (place + layout_size layout)))
+    (pos (3 * more_of layout + 4)) ∷ []) ++ instructions (read_code layout place))
+    ++ (set TRUTH (pos 1) ∷ JumpIf Bits64 how ANSWER (Immediate number) (pos 1) ∷ set TRUTH (pos 0) ∷ [])
+    ≡ front ++ compare_list layout place how number
+value_compare_is front layout place how number =
+    let read = instructions (read_code layout place) in
+    let three : List Instruction =
+    set TRUTH (pos 1) ∷ JumpIf Bits64 how ANSWER (Immediate number) (pos 1) ∷ set TRUTH (pos 0) ∷ [] in
+    let long : 3 * more_of layout + 4 ≡ length (compare_block layout place how number) =
+    omega (
+      arith,
+      read_length layout place,
+      length-append (instructions (read_code layout place))
+          (set TRUTH (pos 1) ∷ JumpIf Bits64 how ANSWER (Immediate number) (pos 1) ∷ set TRUTH (pos 0) ∷ []),
+    ) in
+    append_assoc (front ++ set TRUTH (pos 0) ∷ JumpIf Bits64 jumps.Less LENGTH (Immediate (pos (place + layout_size layout)))
+    (pos (3 * more_of layout + 4)) ∷ []) read three
+    ∙ append_assoc front (set TRUTH (pos 0) ∷ JumpIf Bits64 jumps.Less LENGTH (Immediate (pos (place + layout_size layout)))
+    (pos (3 * more_of layout + 4)) ∷ []) (read ++ three)
+    ∙ ap (λ (n : ℕ). front ++ (set TRUTH (pos 0) ∷ JumpIf Bits64 jumps.Less LENGTH
+    (Immediate (pos (place + layout_size layout))) (pos n) ∷ compare_block layout place how number)) long
 
 -- ---- pieces that are too long
 

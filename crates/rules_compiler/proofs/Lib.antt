@@ -9,6 +9,7 @@ pub mod States
 pub mod Layouts
 pub mod SearchFlows
 pub mod ValueFlows
+pub mod NumberFlows
 pub mod TermFlows
 pub mod CompareFlows
 pub mod Shapes
@@ -20,6 +21,7 @@ pub mod Occurrences
 pub mod SearchEffects
 pub mod TermEffects
 pub mod ValueEffects
+pub mod NumberEffects
 pub mod TextEffects
 pub mod Effects
 pub mod Emissions

@@ -8,7 +8,7 @@ use Rattle.std.proofs.Common.{not}
 use Rattle.std.proofs.Common.{ℕ, zero, suc, ◌+◌, ◌-◌, ◌^◌, ◌<◌, ◌≤◌, pos, nat_lt}
 use Rattle.std.proofs.Common.{List, [], ◌∷◌, ◌++◌, length, refl, arith}
 use Rattle.std.proofs.{lemmas.Bool.cond_both}
-use Rattle.std.proofs.lemmas.Bool.{ltb-true}
+use Rattle.std.proofs.lemmas.Bool.{leb-true, ltb-true}
 use Rattle.machine_spec.specs.declared.{operation.Test.Test as Jumps}
 use Rattle.machine_spec.specs.declared.operation.Operation.TheVariants.{Xor}
 use Rattle.machine_spec.specs.declared.operation.Test.TheVariants as jumps
@@ -26,7 +26,7 @@ use Rattle.rules_compiler.specs.declared.pieces.TheConstants.{NEAR}
 use Rattle.rules_compiler.proofs.Texts.{near_stands}
 use Rattle.std.proofs.Common.{◌*◌}
 use Rattle.machine_spec.specs.declared.instruction.Instruction.TheVariants.{Load}
-use Rattle.rules_compiler.specs.Terms.{count_code, decimal_code, term_code, size_of}
+use Rattle.rules_compiler.specs.Terms.{count_code, decimal_code, term_code}
 use Rattle.rules_compiler.specs.Terms.{layout_code}
 use Rattle.rules.specs.Meaning.{layout_size}
 use Rattle.machine_spec.specs.declared.instruction.Extension.TheVariants.{Zero}
@@ -39,13 +39,20 @@ use Rattle.rules_compiler.proofs.Spelt.{fits_imm, fits_zero, spelt_against}
 use Rattle.rules_compiler.proofs.Spelt.{spelt_call, spelt_change, spelt_copy}
 use Rattle.rules_compiler.proofs.Spelt.{spelt_set}
 use Rattle.rules_compiler.proofs.SpeltCode.{Spells, spells_then, spells_unless, spells_plain, set_zero, set_one, spelt_near, text_spelt, part_spelt}
-use Rattle.rules_compiler.proofs.SpeltCode.{number_spelt, measured_spells, answered_spells, answer_spells, decimal_list, ordered_spelt, layout_spells}
+use Rattle.rules_compiler.proofs.SpeltCode.{number_spelt, measured_spells, answered_spells, answer_spells, decimal_list, layout_spells}
 use Rattle.std.specs.List.{AllByRecursion}
 use Rattle.machine_spec.specs.declared.instruction.Size.{Size}
-use Rattle.rules_compiler.specs.Terms.{value_load, value_number_code, part_number_code}
+use Rattle.rules_compiler.specs.Terms.{first_size, more_of, append_byte, more_code, read_code, value_number_code, is_near}
+use Rattle.rules_compiler.specs.Terms.{part_number_code}
+use Rattle.rules_compiler.specs.Tests.{value_truth_code, value_compare_code, is_at_hand}
+use Rattle.machine_spec.specs.declared.instruction.Instruction.TheVariants.{Compute}
+use Rattle.machine_spec.specs.declared.instruction.Source.TheVariants.{Register}
+use Rattle.machine_spec.specs.declared.operation.Operation.TheVariants.{Add, LeftShift}
+use Rattle.machine_spec.specs.declared.operation.Width.TheVariants.{Bits64}
+use Rattle.rules_compiler.proofs.Spelt.{fits_nothing}
 use Rattle.rules_compiler.specs.Tests.{match_code, value_test_code, is_short, equal_code, begins_code}
 use Rattle.rules_compiler.specs.declared.values.TheConstants.{REACH}
-use Rattle.rules_compiler.proofs.ValueFlows.{sizes_few}
+use Rattle.rules_compiler.proofs.NumberFlows.{behind_first}
 use Rattle.rules_compiler.proofs.Spelt.{fits_distance}
 
 -- ---- terms
@@ -71,20 +78,60 @@ spelt_value_load _ place near = record {
   imm = fits_zero;
 }
 
-value_number_spells : (layout : Layout) (place : ℕ) → place < 32768 → Spells (value_number_code layout place)
+spelt_byte_load : (place : ℕ) → place < 2 ^ 15 → IsSpelt (Load Size.Byte Zero 1 9 (pos place))
+unfolding read_fields template_of
+spelt_byte_load place near = record {
+  reads = λ slot. refl;
+  names = record { dst = omega arith; src = omega arith; changed = omega arith };
+  upper = refl;
+  narrow = refl;
+  slots = refl;
+  offset = fits_distance place near;
+  imm = fits_zero;
+}
+
+spelt_append : IsSpelt (Compute Bits64 Add 0 (Register 1))
+unfolding read_fields template_of
+spelt_append = record {
+  reads = λ slot. refl;
+  names = record { dst = omega arith; src = omega arith; changed = omega arith };
+  upper = refl;
+  narrow = refl;
+  slots = refl;
+  offset = fits_nothing;
+  imm = fits_zero;
+}
+
+more_spells : (place count : ℕ) → place + count ≤ 32768 → Spells (more_code place count)
+unfolding more_code
+more_spells place zero near = spells_plain [] tt
+more_spells place (suc count) near = spells_then
+    (spells_plain (append_byte place) (
+      spelt_change 0 refl LeftShift (pos 8) refl (fits_imm 8 (omega arith)),
+      (spelt_byte_load place (omega arith), (spelt_append, tt)),
+    ))
+    (more_spells (place + 1) count (omega arith))
+
+read_spells : (layout : Layout) (place : ℕ) → place + layout_size layout ≤ 32768 → Spells (read_code layout place)
+unfolding read_code
+read_spells layout place near = spells_then
+    (spells_plain (Load (first_size layout) Zero 0 9 (pos place) ∷ [])
+    (spelt_value_load (first_size layout) place (omega (arith, behind_first layout)), tt))
+    (more_spells (place + 1) (more_of layout) (omega (arith, behind_first layout)))
+
+value_number_spells : (layout : Layout) (place : ℕ) → place + layout_size layout ≤ 32768 →
+    Spells (value_number_code layout place)
 unfolding value_number_code
 value_number_spells layout place near =
-    let few = sizes_few layout in
     spells_then (spells_plain (set 0 (pos 0) ∷ set 8 (pos 0) ∷ []) (set_zero 0 refl, (set_zero 8 refl, tt)))
     (spells_unless jumps.Less 7 (pos (place + layout_size layout)) refl (fits_imm (place + layout_size layout) (omega arith))
-    (spells_plain (value_load layout place)
-    (spelt_value_load (size_of layout) place near, (ordered_spelt layout, (set_one 8 refl, tt)))))
+    (spells_then (read_spells layout place near) (spells_plain (set 8 (pos 1) ∷ []) (set_one 8 refl, tt))))
 
 number_spells : (layout : Layout) (p : Part) (place : ℕ) → FitsPart IsText p → place ≤ 1048576 → Spells (part_number_code layout p place)
 unfolding part_number_code
-number_spells layout part.Value place fits low = cond_both (nat_lt place REACH) (value_number_code layout place)
+number_spells layout part.Value place fits low = cond_both (is_near layout place) (value_number_code layout place)
     (layout_code layout part.Value place) (λ code. Spells code)
-    (λ near. value_number_spells layout place (ltb-true place REACH near)) (λ far. layout_spells layout part.Value place fits low)
+    (λ near. value_number_spells layout place (leb-true (place + layout_size layout) REACH near)) (λ far. layout_spells layout part.Value place fits low)
 number_spells layout part.Key place fits low = layout_spells layout part.Key place fits low
 number_spells layout (part.Header key) place fits low = layout_spells layout (part.Header key) place fits low
 
@@ -121,6 +168,11 @@ length_spells : (how : Jumps) (n : ℕ) → n < 2 ^ 31 →
     Spells (Then (Plain (set 8 (pos 1) ∷ [])) (Unless how 7 (Immediate (pos n)) (Plain (set 8 (pos 0) ∷ []))))
 length_spells how n small = spells_then (spells_plain (set 8 (pos 1) ∷ []) (set_one 8 refl, tt))
     (spells_unless how 7 (pos n) refl (fits_imm n small) (spells_plain (set 8 (pos 0) ∷ []) (set_zero 8 refl, tt)))
+
+truth_spells : (how : Comparison) (n : ℕ) → n < 2 ^ 31 → Spells (value_truth_code how n)
+unfolding value_truth_code
+truth_spells how n small = spells_then (spells_plain (set 8 (pos 1) ∷ []) (set_one 8 refl, tt))
+    (spells_unless (test_of how) 0 (pos n) refl (fits_imm n small) (spells_plain (set 8 (pos 0) ∷ []) (set_zero 8 refl, tt)))
 
 pub stands_spelt : (size : ℕ) → size ≤ 255 → AreSpelt (stands size)
 stands_spelt size few = (
@@ -227,12 +279,23 @@ begins_spells part.Key text fits is = text_test_spells part.Key text jumps.Great
 begins_spells (part.Header key) text fits is = text_test_spells (part.Header key) text jumps.GreaterOrEqual 2 fits is (omega arith)
 
 compare_spells : (t : Term) (how : Comparison) (n : ℕ) → FitsTerm IsText t → n < 2 ^ 64 → Spells (compare_code t how n)
-unfolding compare_code value_length_code term_compare_code
+unfolding compare_code value_length_code term_compare_code value_compare_code
 compare_spells (term.Length part.Value) how n fits small = cond_both (is_plain how n) (value_length_code how n)
     (term_compare_code (term.Length part.Value) how n) (λ code. Spells code)
     (λ plain. length_spells (test_of how) n
     (ltb-true n (2 ^ 31) (and_parts (not (compares how 0 n)) (nat_lt n (2 ^ 31)) plain).1))
     (λ other. spells_then (term_spells (term.Length part.Value) fits)
+    (spells_unless jumps.Equal 8 (pos 0) refl fits_zero (comparing_spells how n small)))
+compare_spells (term.Number layout part.Value place) how n fits small = cond_both (is_at_hand layout place n)
+    (value_compare_code layout place how n) (term_compare_code (term.Number layout part.Value place) how n)
+    (λ code. Spells code)
+    (λ at.
+    let both = and_parts (is_near layout place) (nat_lt n (2 ^ 31)) at in
+    let near = leb-true (place + layout_size layout) REACH both.0 in
+    spells_then (spells_plain (set 8 (pos 0) ∷ []) (set_zero 8 refl, tt))
+    (spells_unless jumps.Less 7 (pos (place + layout_size layout)) refl (fits_imm (place + layout_size layout) (omega arith))
+    (spells_then (read_spells layout place near) (truth_spells how n (ltb-true n (2 ^ 31) both.1)))))
+    (λ other. spells_then (term_spells (term.Number layout part.Value place) fits)
     (spells_unless jumps.Equal 8 (pos 0) refl fits_zero (comparing_spells how n small)))
 compare_spells t how n fits small = spells_then (term_spells t fits)
     (spells_unless jumps.Equal 8 (pos 0) refl fits_zero (comparing_spells how n small))

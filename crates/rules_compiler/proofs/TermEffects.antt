@@ -38,13 +38,14 @@ use Rattle.std.proofs.Common.{unwrap_or, take}
 use Rattle.std.proofs.lemmas.Bool.{le-leb}
 use Rattle.rules_compiler.proofs.Walks.{On, run_list}
 use Rattle.rules_compiler.proofs.LayoutEffects.{layout_values}
-use Rattle.rules_compiler.proofs.ValueEffects.{number_values}
+use Rattle.rules_compiler.proofs.NumberEffects.{number_values}
 use Rattle.rules.specs.Meaning.{number_at}
-use Rattle.rules_compiler.specs.Terms.{layout_code, value_number_code, part_number_code}
+use Rattle.rules.specs.Meaning.{layout_size}
+use Rattle.rules_compiler.specs.Terms.{layout_code, value_number_code, is_near, part_number_code}
 use Rattle.rules_compiler.specs.declared.values.TheConstants.{REACH}
 use Rattle.rules.specs.declared.rule.{Layout.Layout}
 use Rattle.rules.specs.declared.rule.Part.TheVariants as part
-use Rattle.std.proofs.lemmas.Bool.{cond_both, ltb-true}
+use Rattle.std.proofs.lemmas.Bool.{cond_both}
 use Rattle.rules_compiler.proofs.Courses.{Values, bytes_few}
 use Rattle.rules_compiler.proofs.Courses.{bytes_of_found, entered, less_two}
 use Rattle.rules_compiler.proofs.Courses.{list_values, measures}
@@ -255,10 +256,10 @@ module _ (input : Input) (given : IsInput input) (s : State) (ready : Ready inpu
   number_term : (layout : Layout) (p : Part) (place : ℕ) → FitsPart IsText p → place ≤ 1048576 →
       Values input (part_number_code layout p place) s (in_bytes (number_at layout place) (part_bytes p input.given))
   unfolding part_number_code
-  number_term layout part.Value place fits low = cond_both (nat_lt place REACH) (value_number_code layout place)
+  number_term layout part.Value place fits low = cond_both (is_near layout place) (value_number_code layout place)
       (layout_code layout part.Value place)
       (λ code. Values input code s (in_bytes (number_at layout place) input.given.value))
-      (λ near. number_values input given s ready layout place (ltb-true place REACH near))
+      (λ near. number_values input given s ready layout place (leb-true (place + layout_size layout) REACH near))
       (λ far. layout_values input given s ready layout part.Value place fits low)
   number_term layout part.Key place fits low = layout_values input given s ready layout part.Key place fits low
   number_term layout (part.Header key) place fits low =

@@ -1,7 +1,7 @@
 -- The flow of each term.
 use Rattle.std.proofs.Common.{ℕ, ◌+◌, ◌^◌, pos, List, [], ◌∷◌, ◌++◌}
-use Rattle.std.proofs.Common.{refl, nat_lt}
-use Rattle.std.proofs.lemmas.Bool.{cond_both, ltb-true}
+use Rattle.std.proofs.Common.{refl}
+use Rattle.std.proofs.lemmas.Bool.{cond_both, leb-true}
 use Rattle.wire_spec.specs.declared.limits.TheConstants.{MAX_VALUE}
 use Rattle.machine_spec.specs.declared.instruction.Instruction.{Instruction}
 use Rattle.machine_spec.specs.declared.instruction.Instruction.TheVariants.{Call}
@@ -20,8 +20,9 @@ use Rattle.rules_compiler.proofs.Parts.{part_flow}
 use Rattle.rules_compiler.proofs.Texts.{LeadsTo, leads_both}
 use Rattle.rules_compiler.proofs.Flows.{Flow}
 use Rattle.rules_compiler.proofs.Layouts.{layout_flow}
-use Rattle.rules_compiler.proofs.ValueFlows.{number_flow}
-use Rattle.rules_compiler.specs.Terms.{layout_code, value_number_code, part_number_code}
+use Rattle.rules_compiler.proofs.NumberFlows.{number_flow}
+use Rattle.rules_compiler.specs.Terms.{layout_code, value_number_code, is_near, part_number_code}
+use Rattle.rules.specs.Meaning.{layout_size}
 use Rattle.rules_compiler.specs.declared.values.TheConstants.{REACH}
 use Rattle.rules.specs.declared.rule.{Layout.Layout}
 use Rattle.rules.specs.declared.rule.Part.TheVariants as part
@@ -83,9 +84,9 @@ decimal_flow p place count fits =
 
 number_term_flow : (layout : Layout) (p : Part) (place : ℕ) → FitsPart IsText p → Flow (part_number_code layout p place) settled valued
 unfolding part_number_code
-number_term_flow layout part.Value place fits = cond_both (nat_lt place REACH) (value_number_code layout place)
+number_term_flow layout part.Value place fits = cond_both (is_near layout place) (value_number_code layout place)
     (layout_code layout part.Value place) (λ code. Flow code settled valued)
-    (λ near. number_flow layout place (ltb-true place REACH near)) (λ far. layout_flow layout part.Value place fits)
+    (λ near. number_flow layout place (leb-true (place + layout_size layout) REACH near)) (λ far. layout_flow layout part.Value place fits)
 number_term_flow layout part.Key place fits = layout_flow layout part.Key place fits
 number_term_flow layout (part.Header key) place fits = layout_flow layout (part.Header key) place fits
 

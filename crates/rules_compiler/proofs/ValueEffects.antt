@@ -1,38 +1,32 @@
--- What the code does of texts and numbers that are read in the value itself.
+-- What the code does of texts that are read in the value itself.
 use Rattle.std.proofs.Common.{◌≡◌, ℕ, zero, suc, ◌+◌, ◌<◌, ◌≤◌, pos, Bool, true, false, not}
-use Rattle.std.proofs.Common.{◌&&◌, ◌==◌, nat_eq, nat_lt, nat_le, if◌then◌else◌, List, [], ◌∷◌, length, take, drop, get_or, slice_get}
+use Rattle.std.proofs.Common.{◌&&◌, ◌==◌, nat_eq, nat_lt, List, [], ◌∷◌, length, drop, get_or, slice_get}
 use Rattle.std.proofs.Common.{Option, Some, None, unwrap_or, refl, sym, ap, ◌∙◌, subst, arith, ⊎_elim}
 use Rattle.std.specs.{List.AllByRecursion, List.starts_with, Str.bytes_eq}
 use Rattle.std.proofs.{Math.Seq.drop-cons}
-use Rattle.std.proofs.lemmas.Bool.{ne_eqb, eq-eqb, cases_eq, cases_lt, lt-ltb, le-ltb, le-leb, leb-true}
+use Rattle.std.proofs.lemmas.Bool.{ne_eqb, eq-eqb, cases_eq, cases_lt, lt-ltb, le-ltb}
 use Rattle.std.proofs.lemmas.{Slice.Eq.bytes_eq-Decides}
-use Rattle.std.proofs.lemmas.List.{length-take, length-drop, take_all}
-use Rattle.machine_spec.specs.declared.{instruction.Region.Region, instruction.Size.Size}
+use Rattle.std.proofs.lemmas.List.{take_all}
+use Rattle.machine_spec.specs.declared.{instruction.Size.Size}
 use Rattle.machine_spec.specs.declared.instruction.Instruction.TheVariants.{Load}
 use Rattle.machine_spec.specs.declared.instruction.Extension.TheVariants.{Zero}
 use Rattle.machine_spec.specs.declared.instruction.Source.TheVariants.{Immediate}
 use Rattle.machine_spec.specs.declared.operation.Width.TheVariants.{Bits64}
 use Rattle.machine_spec.specs.declared.operation.{Test.Test as Jumps}
 use Rattle.machine_spec.specs.declared.operation.Test.TheVariants as jumps
-use Rattle.machine_spec.specs.Values.{Number, is_taken, little_endian}
-use Rattle.machine_spec.specs.Machine.{Input, State, state_after, goes_to, bytes_of, bytes_from, byte_in, has_part}
+use Rattle.machine_spec.specs.Values.{Number, is_taken}
+use Rattle.machine_spec.specs.Machine.{Input, State, state_after, goes_to, bytes_of}
 use Rattle.verifier_spec.specs.StandsFor.{IsInput}
-use Rattle.rules.specs.declared.rule.Layout.{Layout}
 use Rattle.rules.specs.declared.rule.Part.TheVariants as part
-use Rattle.rules.specs.declared.rule.Layout.TheVariants.{Byte, U16Be, U32Be, U64Be, U16Le, U32Le, U64Le}
-use Rattle.rules.specs.Meaning.{passes_if, test_equals, test_begins, in_bytes, number_at, layout_size, layout_number}
+use Rattle.rules.specs.declared.rule.Layout.TheVariants.{Byte}
+use Rattle.rules.specs.Meaning.{passes_if, test_equals, test_begins}
 use Rattle.rules.specs.Limits.{IsText}
-use Rattle.rules_compiler.specs.Code.{Code, Plain, Then, Unless}
+use Rattle.rules_compiler.specs.Code.{Plain, Unless}
 use Rattle.rules_compiler.specs.Pieces.{set}
-use Rattle.rules_compiler.specs.Terms.{value_load, value_number_code}
 use Rattle.rules_compiler.specs.Tests.{match_code, value_test_code}
 use Rattle.rules_compiler.proofs.Ready.{Ready, small_immediate}
-use Rattle.rules_compiler.proofs.Texts.{read_from}
 use Rattle.rules_compiler.proofs.Walks.{run_list}
-use Rattle.rules_compiler.proofs.Courses.{Decides, Values, skip_decides, enter_decides, list_decides, then_decides}
-use Rattle.rules_compiler.proofs.Courses.{skipped, entered, then_values}
-use Rattle.rules_compiler.proofs.LayoutEffects.{order_of, order_is, piece_bytes, number_found}
-use Rattle.rules_compiler.proofs.ValueFlows.{sizes_few}
+use Rattle.rules_compiler.proofs.Courses.{Decides, skip_decides, enter_decides, list_decides, then_decides}
 
 -- ---- texts
 
@@ -112,11 +106,11 @@ module _ (input : Input) (given : IsInput input) where
       rw turned (skip_decides input jumps.NotEqual 0 (Immediate (pos byte)) block t false (rw (answer, imm, test) refl) clear zero_is))
       (cases_eq x byte)))
 
-  zero_ready : (s : State) → Ready input s → Ready input (run_list input (set 8 (pos 0) ∷ []) s)
+  pub zero_ready : (s : State) → Ready input s → Ready input (run_list input (set 8 (pos 0) ∷ []) s)
   unfolding state_after
   zero_ready s ready = assumption ready
 
-  zero_truth : (s : State) → (run_list input (set 8 (pos 0) ∷ []) s).registers 8 ≡ Number 0
+  pub zero_truth : (s : State) → (run_list input (set 8 (pos 0) ∷ []) s).registers 8 ≡ Number 0
   unfolding state_after
   zero_truth s = refl
 
@@ -233,124 +227,3 @@ module _ (input : Input) (given : IsInput input) (s : State) (ready : Ready inpu
       not_less : (n m : ℕ) → nat_lt n m ≡ false → m ≤ n
       not_less n m e = ⊎_elim
           (λ less. let test = lt-ltb n m less in absurd (cc)) (λ enough. enough) (cases_lt n m)
-
--- ---- numbers
-
-take_get : (n j : ℕ) (l : List ℕ) (x : ℕ) → slice_get (take n l) j ≡ Some x → slice_get l j ≡ Some x
-take_get zero j l x e = absurd cc
-take_get (suc n) j [] x e = absurd cc
-take_get (suc n) zero (y ∷ l) x e = e
-take_get (suc n) (suc j) (y ∷ l) x e = take_get n j l x e
-
-drop_get : (p j : ℕ) (l : List ℕ) (x : ℕ) → slice_get (drop p l) j ≡ Some x → slice_get l (p + j) ≡ Some x
-drop_get zero j l x e = let same : j ≡ 0 + j = omega arith in subst (λ (n : ℕ). slice_get l n ≡ Some x) same e
-drop_get (suc p) j [] x e = absurd cc
-drop_get (suc p) j (y ∷ l) x e =
-    let same : suc (p + j) ≡ suc p + j = omega arith in
-    subst (λ (n : ℕ). slice_get (y ∷ l) n ≡ Some x) same (drop_get p j l x e)
-
-module _ (input : Input) (t : State) (ready : Ready input t) (place : ℕ) where
-  number_ready : (layout : Layout) → Ready input (run_list input (value_load layout place) t)
-  unfolding state_after
-  number_ready Byte = assumption ready
-  number_ready _ = assumption ready
-
-  number_truth : (layout : Layout) → (run_list input (value_load layout place) t).registers 8 ≡ Number 1
-  unfolding state_after
-  number_truth Byte = refl
-  number_truth _ = refl
-
-  start_is : 0 + place ≡ place
-  start_is = omega arith
-
-  number_read : (layout : Layout) → (run_list input (value_load layout place) t).registers 0
-      ≡ Number (order_of layout (little_endian (bytes_from (byte_in input t.stack Region.Value) place (layout_size layout))))
-  unfolding state_after
-  number_read Byte = let base = ready.value_is in rw (base, start_is) refl
-  number_read U16Be = let base = ready.value_is in rw (base, start_is) refl
-  number_read U32Be = let base = ready.value_is in rw (base, start_is) refl
-  number_read U64Be = let base = ready.value_is in rw (base, start_is) refl
-  number_read U16Le = let base = ready.value_is in rw (base, start_is) refl
-  number_read U32Le = let base = ready.value_is in rw (base, start_is) refl
-  number_read U64Le = let base = ready.value_is in rw (base, start_is) refl
-
-  piece_read : (text : List ℕ) (size : ℕ) → text ≡ take size (drop place (bytes_of input.given.value)) → length text ≡ size →
-      bytes_from (byte_in input t.stack Region.Value) place size ≡ text
-  piece_read text size is long =
-      ap (bytes_from (byte_in input t.stack Region.Value) place) (sym long)
-      ∙ read_from (byte_in input t.stack Region.Value) place text (λ j x at.
-      drop_get place j (bytes_of input.given.value) x (take_get size j (drop place (bytes_of input.given.value)) x
-      (subst (λ (l : List ℕ). slice_get l j ≡ Some x) is at)))
-
-module _ (input : Input) (given : IsInput input) (s : State) (ready : Ready input s) (layout : Layout) (place : ℕ) where
-  zeroes_ready : Ready input (run_list input (set 0 (pos 0) ∷ set 8 (pos 0) ∷ []) s)
-  unfolding state_after
-  zeroes_ready = assumption ready
-
-  zeroes_truth : (run_list input (set 0 (pos 0) ∷ set 8 (pos 0) ∷ []) s).registers 8 ≡ Number 0
-  unfolding state_after
-  zeroes_truth = refl
-
-  abbrev reading : Code
-  reading = Unless jumps.Less 7 (Immediate (pos (place + layout_size layout))) (Plain (value_load layout place))
-
-  read_values : (b : Bool) → has_part (bytes_of input.given.value) place (layout_size layout) ≡ b → place < 32768 →
-      Values input (Unless jumps.Less 7 (Immediate (pos (place + layout_size layout))) (Plain (value_load layout place)))
-      (run_list input (set 0 (pos 0) ∷ set 8 (pos 0) ∷ []) s)
-      (if b then Some (layout_number layout (take (layout_size layout) (drop place (bytes_of input.given.value)))) else None)
-  read_values false has near =
-      let t = run_list input (set 0 (pos 0) ∷ set 8 (pos 0) ∷ []) s in
-      let few = sizes_few layout in
-      let imm = small_immediate (place + layout_size layout) (omega arith) in
-      let long = zeroes_ready.length_is in
-      let test = past (place + layout_size layout) (length (bytes_of input.given.value)) has in
-      record {
-        state = goes_to t (t.slot + 1 + length (value_load layout place));
-        runs = skipped input jumps.Less 7 (Immediate (pos (place + layout_size layout))) (Plain (value_load layout place)) t
-            (rw (long, imm) test);
-        ready = assumption zeroes_ready;
-        has = zeroes_truth;
-      }
-    where
-      past : (n m : ℕ) → nat_le n m ≡ false → nat_lt m n ≡ true
-      past n m e = ⊎_elim (λ less. lt-ltb m n less) (λ there. let test = le-leb n m there in absurd (cc)) (cases_lt m n)
-  read_values true has near =
-      let t = run_list input (set 0 (pos 0) ∷ set 8 (pos 0) ∷ []) s in
-      let few = sizes_few layout in
-      let imm = small_immediate (place + layout_size layout) (omega arith) in
-      let long = zeroes_ready.length_is in
-      let within = leb-true (place + layout_size layout) (length (bytes_of input.given.value)) has in
-      let test = le-ltb (length (bytes_of input.given.value)) (place + layout_size layout) within in
-      let text = take (layout_size layout) (drop place (bytes_of input.given.value)) in
-      let size : length (take (layout_size layout) (drop place (bytes_of input.given.value))) ≡ layout_size layout =
-      omega (
-        arith,
-        length-take (layout_size layout) (drop place (bytes_of input.given.value)),
-        length-drop place (bytes_of input.given.value),
-      ) in
-      let u = goes_to t (t.slot + 1) in
-      record {
-        state = run_list input (value_load layout place) u;
-        runs = entered input jumps.Less 7 (Immediate (pos (place + layout_size layout))) (Plain (value_load layout place)) t
-            (rw (long, imm) test);
-        ready = number_ready input u (assumption zeroes_ready) place layout;
-        has = (
-          number_truth input u (assumption zeroes_ready) place layout,
-          number_read input u (assumption zeroes_ready) place layout
-              ∙ ap (λ (l : List ℕ). Number (order_of layout (little_endian l)))
-              (piece_read input u (assumption zeroes_ready) place text (layout_size layout) refl size)
-              ∙ ap Number (order_is layout text size (piece_bytes layout place (bytes_of input.given.value) given.value)),
-        );
-      }
-
-  pub number_values : place < 32768 →
-      Values input (value_number_code layout place) s (in_bytes (number_at layout place) input.given.value)
-  unfolding value_number_code
-  number_values near =
-      let b = has_part (bytes_of input.given.value) place (layout_size layout) in
-      subst (Values input (Then (Plain (set 0 (pos 0) ∷ set 8 (pos 0) ∷ []))
-      (Unless jumps.Less 7 (Immediate (pos (place + layout_size layout))) (Plain (value_load layout place)))) s)
-      (number_found layout place (Some input.given.value))
-      (then_values input (Plain (set 0 (pos 0) ∷ set 8 (pos 0) ∷ []))
-      (Unless jumps.Less 7 (Immediate (pos (place + layout_size layout))) (Plain (value_load layout place))) s
-      (run_list input (set 0 (pos 0) ∷ set 8 (pos 0) ∷ []) s) _ refl (read_values b refl near))

@@ -1,19 +1,17 @@
--- The flow of texts and numbers that are read in the value itself.
+-- The flow of texts that are read in the value itself.
 use Rattle.std.proofs.Common.{◌≡◌, ℕ, suc, ◌+◌, ◌-◌, ◌<◌, ◌≤◌, pos, ◌+ℤ◌, true, false, max, min, int_le}
 use Rattle.std.proofs.Common.{List, [], ◌∷◌, length, Option, Some, None, refl, arith}
 use Rattle.std.proofs.lemmas.Bool.{le-leb, ne_eqb}
 use Rattle.std.proofs.lemmas.{Int.ints}
 use Rattle.wire_spec.specs.declared.limits.TheConstants.{MAX_KEY, MAX_VALUE}
 use Rattle.machine_spec.specs.declared.{helper.TheConstants.HELPERS, limits.TheConstants.STACK_SIZE, instruction.Region.Region}
-use Rattle.machine_spec.specs.declared.{instruction.Instruction.Instruction, instruction.Size.Size}
+use Rattle.machine_spec.specs.declared.{instruction.Size.Size}
 use Rattle.machine_spec.specs.declared.instruction.Instruction.TheVariants.{Load, JumpIf}
 use Rattle.machine_spec.specs.declared.instruction.Extension.TheVariants.{Zero}
 use Rattle.machine_spec.specs.declared.instruction.Source.TheVariants.{Immediate}
 use Rattle.machine_spec.specs.declared.operation.Width.TheVariants.{Bits64}
 use Rattle.machine_spec.specs.declared.operation.Test.TheVariants as jumps
 use Rattle.machine_spec.specs.Values.{immediate, byte_count}
-use Rattle.std.proofs.Common.{subst}
-use Rattle.verifier_spec.specs.{declared.state.StackSet.StackSet, StackSets.is_set}
 use Rattle.verifier_spec.specs.declared.{state.Abs.Abs, state.Abstract.Abstract, interval.Interval.Interval}
 use Rattle.verifier_spec.specs.States.{is_within, is_proper, each_below}
 use Rattle.verifier_spec.specs.{StackSets.no_places, Ranges.lengths_from_to, Intervals.from_to, Checks.failed_check}
@@ -22,17 +20,14 @@ use Rattle.verifier_spec.specs.{Annotation.is_edge_covered}
 use Rattle.verifier_spec.specs.Transfer.{falls_to, jumps_to, loaded_kind, with_range, narrowed_range}
 use Rattle.verifier_spec.proofs.{Safety.failed_from, Whole.le-le_z, StackSets.nothing_set, Proper.range_refl, Joins.within_refl}
 use Rattle.verifier_spec.proofs.Order.{within_from, each_below_at, narrower_from}
-use Rattle.rules.specs.declared.rule.Layout.{Layout}
-use Rattle.rules.specs.declared.rule.Layout.TheVariants.{Byte, U16Be, U32Be, U64Be, U16Le, U32Le, U64Le}
-use Rattle.rules.specs.Meaning.{layout_size}
+use Rattle.rules.specs.declared.rule.Layout.TheVariants.{Byte}
 use Rattle.rules_compiler.specs.Code.{instructions}
 use Rattle.rules_compiler.specs.Pieces.{set}
-use Rattle.rules_compiler.specs.Terms.{size_of, ordered, value_load, value_number_code}
 use Rattle.rules_compiler.specs.Tests.{match_code, value_test_code}
-use Rattle.rules_compiler.proofs.Flows.{Flow, Passing, Skips, pass, after}
+use Rattle.rules_compiler.proofs.Flows.{Flow, Passing, Skips}
 use Rattle.rules_compiler.proofs.Ready.{small_immediate}
-use Rattle.rules_compiler.proofs.Texts.{LeadsTo, leads_both}
-use Rattle.rules_compiler.proofs.States.{any, bit, known, settled, decided, valued, passing_from}
+use Rattle.rules_compiler.proofs.Texts.{LeadsTo}
+use Rattle.rules_compiler.proofs.States.{any, bit, known, settled, decided, passing_from}
 
 -- ---- states in which the value's length is known better
 
@@ -174,6 +169,29 @@ pub load_leads : (size : Size) (least place : ℕ) (j k : Abs) → place + byte_
 unfolding falls_to
 load_leads size least place j k within = record { passed = rw (load_check size least place j k within) refl; is = refl }
 
+-- the same of a byte in r1
+pub byte_check : (least place : ℕ) → place + 1 ≤ least →
+    failed_check HELPERS (Load Size.Byte Zero 1 9 (pos place)) (ranged least MAX_VALUE any (Abs.Num 0 0)) ≡ None
+byte_check least place within =
+    let at : 0 + place ≡ place = omega arith in
+    let start : int_le (pos 0) (pos place) ≡ true = le-le_z (pos 0) (pos place) (omega (arith, ints)) in
+    let end : int_le (pos place +ℤ pos 1) (pos least) ≡ true =
+    le-le_z (pos place +ℤ pos 1) (pos least) (omega (arith, ints)) in
+    failed_from HELPERS (Load Size.Byte Zero 1 9 (pos place)) (ranged least MAX_VALUE any (Abs.Num 0 0)) (record {
+      frame = refl;
+      helper = refl;
+      unset = refl;
+      operands = refl;
+      base = refl;
+      condition = refl;
+      record_write = refl;
+      record_bounds = rw (at, start, end) refl;
+      stack_bounds = refl;
+      stack_unset = refl;
+      argument = refl;
+      exit = refl;
+    })
+
 -- ---- texts
 
 -- a jump by r0 leaves what is known of the value
@@ -220,7 +238,7 @@ match_flow (byte ∷ text) place least within few =
       ),
     )
 
-cleared_proper : is_proper (known Abs.None (Abs.Num 0 0)) ≡ true
+pub cleared_proper : is_proper (known Abs.None (Abs.Num 0 0)) ≡ true
 unfolding is_proper
 cleared_proper = refl
 
@@ -238,19 +256,19 @@ equal_flow byte text few = (
 )
 
 module _ (n c : ℕ) where
-  none_kept : AreKindsWithin (ranged n MAX_VALUE Abs.None (Abs.Num 0 0)) (ranged n MAX_VALUE Abs.None (Abs.Num 0 0))
+  pub none_kept : AreKindsWithin (ranged n MAX_VALUE Abs.None (Abs.Num 0 0)) (ranged n MAX_VALUE Abs.None (Abs.Num 0 0))
   unfolding each_below
   none_kept = refl
 
-  none_decided : AreKindsWithin (ranged 0 c Abs.None (Abs.Num 0 0)) (ranged 0 MAX_VALUE Abs.None bit)
+  pub none_decided : AreKindsWithin (ranged 0 c Abs.None (Abs.Num 0 0)) (ranged 0 MAX_VALUE Abs.None bit)
   unfolding each_below
   none_decided = refl
 
-  zero_kept : AreKindsWithin (ranged n MAX_VALUE (Abs.Num 0 0) (Abs.Num 0 0)) (ranged n MAX_VALUE Abs.None (Abs.Num 0 0))
+  pub zero_kept : AreKindsWithin (ranged n MAX_VALUE (Abs.Num 0 0) (Abs.Num 0 0)) (ranged n MAX_VALUE Abs.None (Abs.Num 0 0))
   unfolding each_below
   zero_kept = refl
 
-  zero_valued : AreKindsWithin (ranged 0 c (Abs.Num 0 0) (Abs.Num 0 0)) (ranged 0 MAX_VALUE any bit)
+  pub zero_valued : AreKindsWithin (ranged 0 c (Abs.Num 0 0) (Abs.Num 0 0)) (ranged 0 MAX_VALUE any bit)
   unfolding each_below
   zero_valued = refl
 
@@ -267,91 +285,3 @@ begins_flow byte text few = (
     match_flow (byte ∷ text) 0 (suc (length text)) (omega arith) (omega arith),
   ),
 )
-
--- ---- numbers
-
-sizes_same : (layout : Layout) → byte_count (size_of layout) ≡ layout_size layout
-sizes_same Byte = refl
-sizes_same _ = refl
-
--- a state in which the value has at least so many bytes is within one in which it may have fewer
-longer : (a b : Abstract) (least : ℕ) → each_below 11 (λ r. is_kind_within a (kind_at a r) (kind_at b r)) ≡ true → a.key ≡ b.key →
-    a.value ≡ lengths_from_to least MAX_VALUE → b.value ≡ lengths_from_to 0 MAX_VALUE → b.set ≡ no_places → is_within a b ≡ true
-longer a b least kinds key value all set = within_from a b (record {
-  kinds = each_below_at 11 (λ r. is_kind_within a (kind_at a r) (kind_at b r)) kinds;
-  lengths = narrower_from a b (rw key (range_refl b.key)) (rw (value, all, le-leb 0 least (omega arith)) refl);
-  set = λ place low e. absurd (nothing_set place low (subst (λ (s : StackSet). is_set s place ≡ true) set e));
-})
-
-module _ (least : ℕ) (few : least ≤ MAX_VALUE) where
-  abbrev read : Layout → Abstract
-  read layout = ranged least MAX_VALUE (loaded_kind (size_of layout) Zero) (Abs.Num 0 0)
-
-  abbrev rest_list : Layout → List Instruction
-  rest_list layout = ordered layout ∷ set 8 (pos 1) ∷ []
-
-  rest_passed : (layout : Layout) → pass (rest_list layout) (read layout) ≡ true
-  unfolding failed_check falls_to
-  rest_passed Byte = refl
-  rest_passed U16Be = refl
-  rest_passed U32Be = refl
-  rest_passed U64Be = refl
-  rest_passed U16Le = refl
-  rest_passed U32Le = refl
-  rest_passed U64Le = refl
-
-  rest_within : (layout : Layout) → is_within (after (rest_list layout) (read layout)) valued ≡ true
-  unfolding falls_to each_below
-  rest_within Byte = longer (after (rest_list Byte) (read Byte)) valued least refl refl refl refl refl
-  rest_within U16Be = longer (after (rest_list U16Be) (read U16Be)) valued least refl refl refl refl refl
-  rest_within U32Be = longer (after (rest_list U32Be) (read U32Be)) valued least refl refl refl refl refl
-  rest_within U64Be = longer (after (rest_list U64Be) (read U64Be)) valued least refl refl refl refl refl
-  rest_within U16Le = longer (after (rest_list U16Le) (read U16Le)) valued least refl refl refl refl refl
-  rest_within U32Le = longer (after (rest_list U32Le) (read U32Le)) valued least refl refl refl refl refl
-  rest_within U64Le = longer (after (rest_list U64Le) (read U64Le)) valued least refl refl refl refl refl
-
-  read_passing : (layout : Layout) (place : ℕ) → place + layout_size layout ≤ least →
-      Passing (value_load layout place) (ranged least MAX_VALUE Abs.None (Abs.Num 0 0)) valued
-  read_passing layout place within =
-      passing_from (value_load layout place) (ranged least MAX_VALUE Abs.None (Abs.Num 0 0))
-      (after (rest_list layout) (read layout)) valued
-      (leads_both (Load (size_of layout) Zero 0 9 (pos place) ∷ []) (rest_list layout)
-      (ranged least MAX_VALUE Abs.None (Abs.Num 0 0)) (read layout) (after (rest_list layout) (read layout))
-      (load_leads (size_of layout) least place Abs.None (Abs.Num 0 0) (omega (arith, sizes_same layout)))
-      (record { passed = rest_passed layout; is = refl }))
-      (rest_within layout)
-
-zeroes : Passing (set 0 (pos 0) ∷ set 8 (pos 0) ∷ []) settled (known (Abs.Num 0 0) (Abs.Num 0 0))
-unfolding failed_check falls_to
-zeroes = record { passed = refl; within = within_refl (known (Abs.Num 0 0) (Abs.Num 0 0)) }
-
-zeroes_proper : is_proper (known (Abs.Num 0 0) (Abs.Num 0 0)) ≡ true
-unfolding is_proper
-zeroes_proper = refl
-
--- the size of a layout is one more than a number
-pub one_less : (layout : Layout) (place : ℕ) → place + layout_size layout ≡ suc (place + layout_size layout - 1)
-one_less Byte place = omega arith
-one_less _ place = omega arith
-
-pub sizes_few : (layout : Layout) → layout_size layout ≤ 8
-sizes_few Byte = omega arith
-sizes_few _ = omega arith
-
-pub number_flow : (layout : Layout) (place : ℕ) → place < 32768 → Flow (value_number_code layout place) settled valued
-unfolding value_number_code
-number_flow layout place near =
-    let few = sizes_few layout in
-    let n = place + layout_size layout in (
-      known (Abs.Num 0 0) (Abs.Num 0 0),
-      zeroes_proper,
-      zeroes,
-      (
-        ranged (place + layout_size layout) MAX_VALUE Abs.None (Abs.Num 0 0),
-        less_skips (place + layout_size layout) (place + layout_size layout - 1) (length (value_load layout place))
-            (one_less layout place) (omega arith) (Abs.Num 0 0)
-            (zero_kept (place + layout_size layout) (place + layout_size layout - 1)) any bit
-            (zero_valued (place + layout_size layout) (place + layout_size layout - 1)),
-        read_passing (place + layout_size layout) (omega arith) layout place (omega arith),
-      ),
-    )

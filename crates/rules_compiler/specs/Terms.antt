@@ -1,14 +1,15 @@
 -- The code of terms: r8 gets whether the record has one, and r0 its value.
-use Rattle.std.specs.Prelude.{ℕ, ◌+◌, ℤ, pos, nat_lt, if◌then◌else◌, List, [], ◌∷◌, ◌++◌}
+use Rattle.std.specs.Prelude.{ℕ, zero, suc, ◌+◌, ℤ, pos, Bool, nat_le, if◌then◌else◌, List, [], ◌∷◌, ◌++◌}
 use Rattle.machine_spec.specs.declared.instruction.Instruction.{Instruction}
-use Rattle.machine_spec.specs.declared.instruction.Instruction.TheVariants.{Load, Unary, Call}
+use Rattle.machine_spec.specs.declared.instruction.Instruction.TheVariants.{Compute, Load, Unary, Call}
 use Rattle.machine_spec.specs.declared.instruction.{Size.Size, Extension.TheVariants.Zero}
 use Rattle.machine_spec.specs.declared.operation.SwappedWidth.{SwappedWidth}
-use Rattle.machine_spec.specs.declared.operation.SwappedWidth.TheVariants.{Bits16, Bits32, Bits64}
+use Rattle.machine_spec.specs.declared.operation.SwappedWidth.TheVariants as swapped
+use Rattle.machine_spec.specs.declared.operation.Width.TheVariants.{Bits64}
 use Rattle.machine_spec.specs.declared.operation.Change.TheVariants.{Order}
 use Rattle.machine_spec.specs.declared.operation.ByteOrder.TheVariants.{BigEndian}
-use Rattle.machine_spec.specs.declared.instruction.Source.TheVariants.{Immediate}
-use Rattle.machine_spec.specs.declared.operation.Operation.TheVariants.{Add, Sub}
+use Rattle.machine_spec.specs.declared.instruction.Source.TheVariants.{Register, Immediate}
+use Rattle.machine_spec.specs.declared.operation.Operation.TheVariants.{Add, Sub, LeftShift}
 use Rattle.machine_spec.specs.declared.operation.Test.TheVariants.{NotEqual, Less}
 use Rattle.rules.specs.declared.{rule.Part.Part, rule.Layout.Layout, rule.Term.Term}
 use Rattle.rules.specs.declared.rule.Layout.TheVariants.{Byte, U16Be, U32Be, U64Be, U16Le, U32Le, U64Le}
@@ -52,9 +53,9 @@ turned width = Unary (Order BigEndian width) ANSWER ANSWER
 -- the bytes of r0 as the layout orders them; where they are so, r1 gets them too
 abbrev pub ordered : Layout → Instruction
 ordered Byte = copy 1 ANSWER
-ordered U16Be = turned Bits16
-ordered U32Be = turned Bits32
-ordered U64Be = turned Bits64
+ordered U16Be = turned swapped.Bits16
+ordered U32Be = turned swapped.Bits32
+ordered U64Be = turned swapped.Bits64
 ordered U16Le = copy 1 ANSWER
 ordered U32Le = copy 1 ANSWER
 ordered U64Le = copy 1 ANSWER
@@ -72,18 +73,53 @@ unfoldable pub layout_code : Layout → Part → ℕ → Code
 layout_code layout p place = Then (Plain (part_code p ++ room_call (layout_size layout) place))
     (Unless NotEqual ANSWER (Immediate (pos 0)) (Plain (load_list layout)))
 
-abbrev pub value_load : Layout → ℕ → List Instruction
-value_load layout place = Load (size_of layout) Zero ANSWER VALUE (pos place) ∷ ordered layout ∷ set TRUTH (pos 1) ∷ []
+-- ---- numbers in the value itself
 
--- the number that bytes of the value are
+-- what is loaded first: all bytes, where the lowest comes first, and else one
+abbrev pub first_size : Layout → Size
+first_size Byte = Size.Byte
+first_size U16Be = Size.Byte
+first_size U32Be = Size.Byte
+first_size U64Be = Size.Byte
+first_size U16Le = Size.Half
+first_size U32Le = Size.Word
+first_size U64Le = Size.Double
+
+-- how many bytes follow it one by one
+abbrev pub more_of : Layout → ℕ
+more_of U16Be = 1
+more_of U32Be = 3
+more_of U64Be = 7
+more_of _ = 0
+
+-- a byte of the value is put behind those of r0
+abbrev pub append_byte : ℕ → List Instruction
+append_byte place = change LeftShift ANSWER (pos 8) ∷ Load Size.Byte Zero 1 VALUE (pos place)
+    ∷ Compute Bits64 Add ANSWER (Register 1) ∷ []
+
+-- so many bytes from a place on
+unfoldable pub more_code : (place count : ℕ) → Code
+more_code place zero = Plain []
+more_code place (suc count) = Then (Plain (append_byte place)) (more_code (place + 1) count)
+
+-- r0 gets the number that bytes of the value are
+unfoldable pub read_code : Layout → ℕ → Code
+read_code layout place = Then (Plain (Load (first_size layout) Zero ANSWER VALUE (pos place) ∷ []))
+    (more_code (place + 1) (more_of layout))
+
+-- the same as a term
 unfoldable pub value_number_code : Layout → ℕ → Code
 value_number_code layout place = Then (Plain (set ANSWER (pos 0) ∷ set TRUTH (pos 0) ∷ []))
-    (Unless Less LENGTH (Immediate (pos (place + layout_size layout))) (Plain (value_load layout place)))
+    (Unless Less LENGTH (Immediate (pos (place + layout_size layout)))
+    (Then (read_code layout place) (Plain (set TRUTH (pos 1) ∷ []))))
 
--- a load names a place below 32,768
+-- loads can name each byte of the number
+abbrev pub is_near : Layout → ℕ → Bool
+is_near layout place = nat_le (place + layout_size layout) REACH
+
 unfoldable pub part_number_code : Layout → Part → ℕ → Code
 part_number_code layout part.Value place =
-    if nat_lt place REACH then value_number_code layout place else layout_code layout part.Value place
+    if is_near layout place then value_number_code layout place else layout_code layout part.Value place
 part_number_code layout p place = layout_code layout p place
 
 unfoldable pub term_code : Term → Code

@@ -17,10 +17,11 @@ use Rattle.rules.specs.declared.rule.Test.TheVariants as test
 use Rattle.rules_compiler.specs.declared.searches.TheConstants.{LOOKED_AT, OTHERS, PLACES}
 use Rattle.rules_compiler.specs.declared.pieces.TheConstants.{ANSWER, PART, LENGTH, TRUTH, VALUE, FRAME, NEAR}
 use Rattle.rules_compiler.specs.declared.values.TheConstants.{SHORT}
-use Rattle.rules_compiler.specs.Code.{Code, Plain, Then, Unless}
+use Rattle.rules_compiler.specs.Code.{Code, Plain, Then, Unless, instructions}
 use Rattle.rules_compiler.specs.Pieces.{set, copy, change, number_code, text_code, part_code, measure}
-use Rattle.rules.specs.Meaning.{compares}
-use Rattle.rules_compiler.specs.Terms.{term_code}
+use Rattle.rules.specs.declared.rule.{Layout.Layout}
+use Rattle.rules.specs.Meaning.{compares, layout_size}
+use Rattle.rules_compiler.specs.Terms.{term_code, read_code, is_near}
 
 -- what the helper says of a part's length is a number
 unfoldable pub length_test_code : Part → ℤ → Code
@@ -136,9 +137,37 @@ unfoldable pub value_length_code : Comparison → ℕ → Code
 value_length_code how number = Then (Plain (set TRUTH (pos 1) ∷ []))
     (Unless (test_of how) LENGTH (Immediate (pos number)) (Plain (set TRUTH (pos 0) ∷ [])))
 
+-- r8 gets whether r0 compares so with a number
+unfoldable pub value_truth_code : Comparison → ℕ → Code
+value_truth_code how number = Then (Plain (set TRUTH (pos 1) ∷ []))
+    (Unless (test_of how) ANSWER (Immediate (pos number)) (Plain (set TRUTH (pos 0) ∷ [])))
+
+-- whether a number in the value compares so with one that an instruction can hold
+unfoldable pub value_compare_code : Layout → ℕ → Comparison → ℕ → Code
+value_compare_code layout place how number = Then (Plain (set TRUTH (pos 0) ∷ []))
+    (Unless jumps.Less LENGTH (Immediate (pos (place + layout_size layout)))
+    (Then (read_code layout place) (value_truth_code how number)))
+
+-- the same as a list
+abbrev pub compare_block : Layout → ℕ → Jumps → ℤ → List Instruction
+compare_block layout place how number = instructions (read_code layout place)
+    ++ (set TRUTH (pos 1) ∷ JumpIf Bits64 how ANSWER (Immediate number) (pos 1) ∷ set TRUTH (pos 0) ∷ [])
+
+abbrev pub compare_list : Layout → ℕ → Jumps → ℤ → List Instruction
+compare_list layout place how number = set TRUTH (pos 0)
+    ∷ JumpIf Bits64 jumps.Less LENGTH (Immediate (pos (place + layout_size layout)))
+    (pos (length (compare_block layout place how number))) ∷ compare_block layout place how number
+
+-- both can be named
+abbrev pub is_at_hand : Layout → ℕ → ℕ → Bool
+is_at_hand layout place number = is_near layout place && nat_lt number (2 ^ 31)
+
 unfoldable pub compare_code : Term → Comparison → ℕ → Code
 compare_code (term.Length part.Value) how number =
     if is_plain how number then value_length_code how number else term_compare_code (term.Length part.Value) how number
+compare_code (term.Number layout part.Value place) how number =
+    if is_at_hand layout place number then value_compare_code layout place how number
+    else term_compare_code (term.Number layout part.Value place) how number
 compare_code t how number = term_compare_code t how number
 
 unfoldable pub test_code : Test → Code

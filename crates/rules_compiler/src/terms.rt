@@ -9,7 +9,7 @@ use crate::loads::{layout_size, ordered, size_of};
 use crate::pieces::{
     ANSWER, FRAME, NEAR, PART, TRUTH, change, copy, put_measured, put_part, set, skip_if,
 };
-use crate::values::{REACH, put_value_number};
+use crate::values::{is_near, put_value_number};
 use machine_spec::{Extension, Instruction, Operation, Test};
 use rules::{Layout, Part, Term};
 use std::alloc::AllocError;
@@ -77,7 +77,7 @@ fn put_layout(
         copy(1, FRAME),
         change(Operation::Add, 1, i32::from(NEAR)),
         set(2, place as i32),
-        set(3, layout_size(layout)),
+        set(3, layout_size(layout) as i32),
         copy(4, PART),
         Instruction::Call(14),
         set(TRUTH, 0),
@@ -101,7 +101,7 @@ fn put_layout_of(
     ensures { OnOk result (code.new.items ≡ code.old.items ++ instructions (definitions.part_number_code layout part.now place)) }
 {
     match part {
-        Part::Value if place < REACH => put_value_number(code, layout, place),
+        Part::Value if is_near(layout, place) => put_value_number(code, layout, place),
         Part::Value | Part::Key | Part::Header(_) => put_layout(code, layout, part, place),
     }
 }

@@ -14,7 +14,9 @@ use crate::pieces::{
 };
 use crate::searches::put_has;
 use crate::terms::put_term;
-use crate::values::{is_plain, is_short, put_value_length, put_value_test};
+use crate::values::{
+    is_at_hand, is_plain, is_short, put_value_compare, put_value_length, put_value_test,
+};
 use machine_spec::{Instruction, Operation, Source, Width};
 use rules::{Comparison, Part, Term, Test, Text};
 use std::alloc::{AllocError, Global};
@@ -153,8 +155,8 @@ fn put_term_compare(
     put_unless(code, machine_spec::Test::Equal, &block)
 }
 
-/// Whether a term compares so with a number. The value's length is at hand.
-#[tactic(auto, unfolding(crate::specs::Tests::compare_code, crate::specs::Tests::value_length_code))]
+/// Whether a term compares so with a number. The value and its length are at hand.
+#[tactic(auto, unfolding(crate::specs::Tests::compare_code, crate::specs::Tests::value_length_code, crate::specs::Tests::value_compare_code, crate::specs::Tests::value_truth_code))]
 fn put_compare(
     alloc: Global,
     code: &mut Vec<Instruction>,
@@ -169,6 +171,10 @@ fn put_compare(
     match term {
         Term::Length(Part::Value) if is_plain(how, number) => {
             put_value_length(code, test_of(how), number as i32)?;
+            Ok(())
+        }
+        Term::Number(layout, Part::Value, place) if is_at_hand(*layout, *place, number) => {
+            put_value_compare(code, *layout, *place, test_of(how), number as i32)?;
             Ok(())
         }
         Term::Length(_)

@@ -1,14 +1,15 @@
 //! What is read in the value itself, where a call would take longer.
 
-ghost use Rattle.std.specs.Prelude.{◌≡◌, ◌+◌, ◌<◌, ◌≤◌, ◌++◌, length, OnOk};
+ghost use Rattle.std.specs.Prelude.{◌≡◌, ◌+◌, ◌<◌, ◌≤◌, ◌++◌, length, pos, OnOk};
 ghost use Rattle.rules.specs.Limits.{FitsText};
+ghost use Rattle.rules.specs.Meaning.{layout_size};
 ghost use Rattle.rules_compiler.specs.Code.{instructions};
 ghost use Rattle.rules_compiler.specs.Terms as numbers;
 ghost use Rattle.rules_compiler.specs.Tests as definitions;
 
-use crate::loads::{layout_size, ordered, size_of};
-use crate::pieces::{ANSWER, LENGTH, TRUTH, VALUE, set, skip_if};
-use machine_spec::{Extension, Instruction, Size, Test};
+use crate::loads::{first_size, layout_size, more_of};
+use crate::pieces::{ANSWER, LENGTH, TRUTH, VALUE, change, set, skip_if};
+use machine_spec::{Extension, Instruction, Operation, Size, Source, Test, Width};
 use rules::{Comparison, Layout, Text};
 use std::alloc::AllocError;
 
@@ -104,28 +105,112 @@ pub fn put_value_length(
     ])
 }
 
+/// Whether loads can name each byte of a number.
+pub fn is_near(layout: Layout, place: u32) -> bool
+    requires { place ≤ 1048576 }
+    ensures { result ≡ numbers.is_near layout place }
+{
+    place + layout_size(layout) <= REACH
+}
+
+/// A byte of the value is put behind those of r0.
+fn append_byte(place: u32) -> [Instruction; 3]
+    requires { place < REACH }
+    ensures { result ≡ numbers.append_byte place }
+{
+    [
+        change(Operation::LeftShift, ANSWER, 8),
+        Instruction::Load(Size::Byte, Extension::Zero, 1, VALUE, place as i16),
+        Instruction::Compute(Width::Bits64, Operation::Add, ANSWER, Source::Register(1)),
+    ]
+}
+
+/// So many bytes from a place on.
+fn put_more(code: &mut Vec<Instruction>, place: u32, count: u32) -> Result<(), AllocError>
+    requires { place + count ≤ REACH }
+    ensures { OnOk result (code.new.items ≡ code.old.items ++ instructions (numbers.more_code place count)) }
+{
+    for k in 0..count {
+        code.extend_from_slice(&append_byte(place + k))?;
+    }
+    Ok(())
+}
+
+/// r0 gets the number that bytes of the value are.
+#[tactic(auto, unfolding(crate::specs::Terms::read_code))]
+fn put_read(code: &mut Vec<Instruction>, layout: Layout, place: u32) -> Result<(), AllocError>
+    requires { place + layout_size layout ≤ REACH }
+    ensures { OnOk result (code.new.items ≡ code.old.items ++ instructions (numbers.read_code layout place)) }
+{
+    let count = more_of(layout);
+    let size = first_size(layout);
+    code.extend_from_slice(&[Instruction::Load(
+        size,
+        Extension::Zero,
+        ANSWER,
+        VALUE,
+        place as i16,
+    )])?;
+    put_more(code, place + 1, count)
+}
+
+/// Leaves out so many instructions, where the value has not all bytes of a number.
+fn skip_short(layout: Layout, place: u32, count: u32) -> Instruction
+    requires place { place ≤ REACH }
+    requires count { count ≤ 255 }
+    ensures { result ≡ Instruction.JumpIf Width.Bits64 Test.Less LENGTH (Source.Immediate (pos (place + layout_size layout))) (pos count) }
+{
+    let end = place + layout_size(layout);
+    skip_if(Test::Less, LENGTH, end as i32, count as i16)
+}
+
 /// The number that bytes of the value are.
-#[tactic(auto, unfolding(crate::specs::Terms::value_number_code))]
+#[tactic(auto, using(crate::proofs::Lengths::value_number_is))]
 pub fn put_value_number(
     code: &mut Vec<Instruction>,
     layout: Layout,
     place: u32,
 ) -> Result<(), AllocError>
-    requires { place < REACH }
+    requires { place + layout_size layout ≤ REACH }
     ensures { OnOk result (code.new.items ≡ code.old.items ++ instructions (numbers.value_number_code layout place)) }
 {
+    let count = 3 * more_of(layout) + 2;
     code.extend_from_slice(&[
         set(ANSWER, 0),
         set(TRUTH, 0),
-        skip_if(Test::Less, LENGTH, place as i32 + layout_size(layout), 3),
-        Instruction::Load(
-            size_of(layout),
-            Extension::Zero,
-            ANSWER,
-            VALUE,
-            place as i16,
-        ),
-        ordered(layout),
+        skip_short(layout, place, count),
+    ])?;
+    put_read(code, layout, place)?;
+    code.push(set(TRUTH, 1))?;
+    Ok(())
+}
+
+/// Whether a number in the value, and what it is compared with, can be named.
+pub fn is_at_hand(layout: Layout, place: u32, number: u64) -> bool
+    requires { place ≤ 1048576 }
+    ensures { result ≡ definitions.is_at_hand layout place number }
+{
+    is_near(layout, place) && number < 0x8000_0000
+}
+
+/// Whether the number that bytes of the value are passes a test against another one.
+#[tactic(auto, using(crate::proofs::Lengths::value_compare_is))]
+pub fn put_value_compare(
+    code: &mut Vec<Instruction>,
+    layout: Layout,
+    place: u32,
+    how: Test,
+    number: i32,
+) -> Result<(), AllocError>
+    requires { place + layout_size layout ≤ REACH }
+    ensures { OnOk result (code.new.items ≡ code.old.items ++ definitions.compare_list layout place how number) }
+{
+    let count = 3 * more_of(layout) + 4;
+    code.extend_from_slice(&[set(TRUTH, 0), skip_short(layout, place, count)])?;
+    put_read(code, layout, place)?;
+    code.extend_from_slice(&[
         set(TRUTH, 1),
+        skip_if(how, ANSWER, number, 1),
+        set(TRUTH, 0),
     ])
 }
