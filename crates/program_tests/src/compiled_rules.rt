@@ -122,6 +122,22 @@ static ACTIONS: &str = "\
 # the first rule that holds
 6b 76 | output 0 when key = \"a\";output 1 when key = \"k\";output 2 | 1 6b 76
 6b 76 | output 0 when key = \"a\";output 1 when key = \"b\";output 2 | 2 6b 76
+# what the first rule asks of the key is read in the key itself
+6162 76 | output 0 when key begins \"a\";output 1 | 0 6162 76
+6162 76 | output 0 when key = \"a\";output 1 | 1 6162 76
+6162 76 | output 0 when key = \"ab\";output 1 | 0 6162 76
+61 76 | output 0 when key begins \"ab\";output 1 | 1 61 76
+6261 76 | output 0 when not key begins \"a\";output 1 | 0 6261 76
+6162 76 | output 0 when not key begins \"a\";output 1 | 1 6162 76
+- 76 | output 0 when key begins \"a\";output 1 | 1 - 76
+- 76 | output 0 when not key = \"a\";output 1 | 0 - 76
+- 76 | output 0 when key = \"\";output 1 | 1 - 76
+61*17 76 | output 0 when key begins \"aaaaaaaaaaaaaaaa\";output 1 | 0 61*17 76
+61*17 76 | output 0 when key begins \"aaaaaaaaaaaaaaaaa\";output 1 | 0 61*17 76
+61*17 76 | output 0 when key = \"aaaaaaaaaaaaaaaa\";output 1 | 1 61*17 76
+6162 7677 | drop when not key begins \"a\";output 1 value[1..] when value = \"vw\" and key = \"ab\" | 1 6162 77
+6162 7677 | tombstone 2 when key begins \"ab\";drop when value = \"vw\" | 2 6162 -
+6162 7677 | tombstone 2 when key begins \"abc\";drop 3 when value = \"vw\" | reject 3
 ";
 
 #[test]
@@ -287,6 +303,9 @@ static SLOTS: &str = "\
 # 198 slots a rule
 82 | drop when value has \"a\" | 16240
 83 | drop when value has \"a\" | rule 83: E9 Slots
+# a text of the key in the first rule, and in another one
+1 | drop when key begins \"ab\" | 14
+2 | drop when key begins \"ab\" | 34
 # bytes of the value one by one, where the highest comes first
 1 | drop when u32le(value, 4) < 1000 | 13
 1 | drop when u32be(value, 4) < 1000 | 22

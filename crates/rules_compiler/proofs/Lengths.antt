@@ -17,17 +17,18 @@ use Rattle.rules_compiler.specs.declared.{fault.CompileFault.CompileFault, fault
 use Rattle.rules_compiler.specs.declared.fault.CompileFault.TheVariants as fault
 use Rattle.rules_compiler.specs.declared.fault.Refusal.TheVariants as refusal
 use Rattle.rules_compiler.specs.Code.{Code, Plain, Then, Unless, instructions}
-use Rattle.rules_compiler.specs.declared.pieces.TheConstants.{ANSWER, LENGTH, TRUTH, VALUE}
+use Rattle.rules_compiler.specs.declared.pieces.TheConstants.{ANSWER, LENGTH, TRUTH}
 use Rattle.rules_compiler.specs.{Pieces.set, Pieces.change}
-use Rattle.rules_compiler.specs.Faults.{IsTooLong, IsRefusedAt, IsFirstAfter, AreRefusedAfter, AreRefused}
-use Rattle.rules_compiler.specs.Tests.{match_byte, match_code, value_test_code, test_code, searches_code}
+use Rattle.rules_compiler.specs.Faults.{IsTooLong, IsRefusedAt, IsFirstAfter, AreRefusedBehind, IsFirstTooLong, AreRefused}
+use Rattle.rules_compiler.specs.Tests.{match_byte, match_code, match_test_code, test_code, searches_code}
 use Rattle.rules_compiler.specs.Tests.{compare_block, compare_list}
 use Rattle.rules_compiler.specs.Terms.{more_of, append_byte, more_code, read_code, value_number_code}
 use Rattle.rules.specs.declared.rule.{Layout.Layout}
 use Rattle.rules.specs.Meaning.{layout_size}
 use Rattle.std.proofs.Common.{ℤ}
 use Rattle.std.proofs.lemmas.List.{append-nil}
-use Rattle.rules_compiler.specs.Rules.{condition_code, line_code, lines_code, body_of, code_of}
+use Rattle.rules_compiler.specs.Rules.{condition_code, line_code, lines_code, opening_of, rules_code, body_of, code_of}
+use Rattle.rules_compiler.proofs.Loops.{lines_behind, drop_behind}
 use Rattle.rules_compiler.specs.declared.searches.TheConstants.{PLACES}
 
 -- ---- searches
@@ -39,29 +40,30 @@ searches_length size place (suc left) = omega (arith, searches_length size (plac
 
 -- ---- short texts
 
-pub match_length : (text : List ℕ) (place : ℕ) → length (instructions (match_code text place)) ≡ 2 * length text + 1
+pub match_length : (base : ℕ) (text : List ℕ) (place : ℕ) → length (instructions (match_code base text place)) ≡ 2 * length text + 1
 unfolding match_code
-match_length [] place = refl
-match_length (byte ∷ text) place = omega (arith, match_length text (place + 1))
+match_length base [] place = refl
+match_length base (byte ∷ text) place = omega (arith, match_length base text (place + 1))
 
 -- one more byte of a text
-pub match_step : (front code next : List Instruction) (text : List ℕ) (k : ℕ) → k < length text →
-    front ≡ code ++ instructions (match_code (drop k text) k) →
-    next ≡ code ++ match_byte k (get_or text k 0) (length text - k - 1) →
-    front ≡ next ++ instructions (match_code (drop (k + 1) text) (k + 1))
+pub match_step : (base : ℕ) (front code next : List Instruction) (text : List ℕ) (k : ℕ) → k < length text →
+    front ≡ code ++ instructions (match_code base (drop k text) k) →
+    next ≡ code ++ match_byte base k (get_or text k 0) (length text - k - 1) →
+    front ≡ next ++ instructions (match_code base (drop (k + 1) text) (k + 1))
 unfolding match_code
-match_step front code next text k low so_far more =
+match_step base front code next text k low so_far more =
     let parts = drop-cons text k 0 low in
     let one : suc k ≡ k + 1 = omega arith in
-    let long = match_length (drop (k + 1) text) (k + 1) in
+    let long = match_length base (drop (k + 1) text) (k + 1) in
     let left : length (drop (k + 1) text) ≡ length text - k - 1 = omega (arith, length-drop (k + 1) text) in
-    let rest = instructions (match_code (drop (k + 1) text) (k + 1)) in
+    let rest = instructions (match_code base (drop (k + 1) text) (k + 1)) in
     let count = long ∙ ap (λ (n : ℕ). 2 * n + 1) left in
     so_far
-    ∙ ap (λ (l : List ℕ). code ++ instructions (match_code l k)) (parts ∙ ap (λ (n : ℕ). get_or text k 0 ∷ drop n text) one)
-    ∙ ap (λ (n : ℕ). code ++ (Load Size.Byte Zero ANSWER VALUE (pos k)
+    ∙ ap (λ (l : List ℕ). code ++ instructions (match_code base l k))
+    (parts ∙ ap (λ (n : ℕ). get_or text k 0 ∷ drop n text) one)
+    ∙ ap (λ (n : ℕ). code ++ (Load Size.Byte Zero ANSWER base (pos k)
     ∷ JumpIf Bits64 jumps.NotEqual ANSWER (Immediate (pos (get_or text k 0))) (pos n) ∷ rest)) count
-    ∙ sym (append_assoc code (match_byte k (get_or text k 0) (length text - k - 1)) rest)
+    ∙ sym (append_assoc code (match_byte base k (get_or text k 0) (length text - k - 1)) rest)
     ∙ ap (λ (l : List Instruction). l ++ rest) (sym more)
 
 no_more : (text : List ℕ) (k : ℕ) → length text ≤ k → drop k text ≡ []
@@ -70,22 +72,22 @@ no_more [] (suc k) past = refl
 no_more (byte ∷ text) zero past = absurd (omega arith)
 no_more (byte ∷ text) (suc k) past = no_more text k (omega arith)
 
-pub match_end : (front code : List Instruction) (text : List ℕ) (k : ℕ) → length text ≤ k →
-    front ≡ code ++ instructions (match_code (drop k text) k) → front ≡ code ++ set TRUTH (pos 1) ∷ []
+pub match_end : (base : ℕ) (front code : List Instruction) (text : List ℕ) (k : ℕ) → length text ≤ k →
+    front ≡ code ++ instructions (match_code base (drop k text) k) → front ≡ code ++ set TRUTH (pos 1) ∷ []
 unfolding match_code
-match_end front code text k past so_far =
-    so_far ∙ ap (λ (l : List ℕ). code ++ instructions (match_code l k)) (no_more text k past)
+match_end base front code text k past so_far =
+    so_far ∙ ap (λ (l : List ℕ). code ++ instructions (match_code base l k)) (no_more text k past)
 
 -- a test of a text as it is put together
-pub value_test_is : (front : List Instruction) (text : List ℕ) (how : Test) →
-    (front ++ set TRUTH (pos 0) ∷ JumpIf Bits64 how LENGTH (Immediate (pos (length text))) (pos (2 * length text + 1)) ∷ [])
-    ++ instructions (match_code text 0) ≡ front ++ instructions (value_test_code text how)
-unfolding value_test_code
-value_test_is front text how =
-    append_assoc front (set TRUTH (pos 0) ∷ JumpIf Bits64 how LENGTH (Immediate (pos (length text))) (pos (2 * length text + 1)) ∷ [])
-    (instructions (match_code text 0))
-    ∙ ap (λ (n : ℕ). front ++ (set TRUTH (pos 0) ∷ JumpIf Bits64 how LENGTH (Immediate (pos (length text))) (pos n)
-    ∷ instructions (match_code text 0))) (sym (match_length text 0))
+pub match_test_is : (base long : ℕ) (front : List Instruction) (text : List ℕ) (how : Test) →
+    (front ++ set TRUTH (pos 0) ∷ JumpIf Bits64 how long (Immediate (pos (length text))) (pos (2 * length text + 1)) ∷ [])
+    ++ instructions (match_code base text 0) ≡ front ++ instructions (match_test_code base long text how)
+unfolding match_test_code
+match_test_is base long front text how =
+    append_assoc front (set TRUTH (pos 0) ∷ JumpIf Bits64 how long (Immediate (pos (length text))) (pos (2 * length text + 1)) ∷ [])
+    (instructions (match_code base text 0))
+    ∙ ap (λ (n : ℕ). front ++ (set TRUTH (pos 0) ∷ JumpIf Bits64 how long (Immediate (pos (length text))) (pos n)
+    ∷ instructions (match_code base text 0))) (sym (match_length base text 0))
 
 -- ---- numbers in the value
 
@@ -237,36 +239,110 @@ line_split line lines rest is =
     ap (λ (l : List Line). length (instructions (lines_code l))) is
     ∙ length-append (instructions (line_code line)) (instructions (lines_code rest))
 
--- a rule with which the code before the end is too long is the first one, where that before it is not
-pub first_refused : (before made : List Instruction) (rules : List Rule) (k number : ℕ) (rule : Rule) (why : CompileFault) →
-    before ++ instructions (lines_code (lines_of rules)) ≡ made ++ instructions (lines_code (lines_of (drop k rules))) →
+-- a rule behind the first one with which the code before the end is too long is the first such rule
+pub rest_refused : (before made : List Instruction) (rules : List Rule) (k number : ℕ) (rule : Rule) (why : CompileFault) →
+    1 ≤ k → before ++ instructions (lines_code (drop 1 (lines_of rules))) ≡ made ++ instructions (lines_code (lines_of (drop k rules))) →
     lines_of (drop k rules) ≡ line_of rule ∷ lines_of (drop (k + 1) rules) → length made + 2 ≤ MAX_SLOTS → number ≡ k + 1 →
     IsRefusedAt (length made + length (instructions (line_code (line_of rule)))) number why →
-    AreRefusedAfter (length before) (lines_of rules) why
-first_refused before made rules k number rule (fault.Slots n) so_far next few is refused =
-    let all = length-append before (instructions (lines_code (lines_of rules))) in
-    let parts = length-append made (instructions (lines_code (lines_of (drop k rules)))) in
+    AreRefusedBehind (length before) (lines_of rules) why
+rest_refused before made rules k number rule (fault.Slots n) low so_far next few is refused =
     let same = ap (λ (l : List Instruction). length l) so_far in
+    let all = length-append before (instructions (lines_code (drop 1 (lines_of rules)))) in
+    let parts = length-append made (instructions (lines_code (lines_of (drop k rules)))) in
     let one = line_split (line_of rule) (lines_of (drop k rules)) (lines_of (drop (k + 1) rules)) next in
-    let here = lines_split rules k in
-    let behind = lines_split rules (k + 1) in
+    let here = lines_split (drop 1 rules) (k - 1) in
+    let behind = lines_split (drop 1 rules) k in
+    let first : drop (k - 1) (drop 1 rules) ≡ drop k rules =
+    drop_behind rules (k - 1) ∙ ap (λ (m : ℕ). drop m rules) (omega arith) in
+    let others = drop_behind rules k in
+    let first_long = ap (λ (l : List Rule). length (instructions (lines_code (lines_of l)))) first in
+    let others_long = ap (λ (l : List Rule). length (instructions (lines_code (lines_of l)))) others in
+    let list = lines_behind rules in
+    let whole = ap (λ (l : List Line). length (instructions (lines_code l))) list in
+    let taken = ap (λ (l : List Line). length (instructions (lines_code (take k l)))) list in
+    let fewer = ap (λ (l : List Line). length (instructions (lines_code (take (k - 1) l)))) list in
     let at : n ≡ k + 1 = refused.0 ∙ is in
-    let past : k + 1 - 1 ≡ k = omega arith in
-    subst (λ (m : ℕ). IsFirstAfter (length before) (lines_of rules) m) (sym at)
-    (record { long = omega (arith, refused.1); short = rw past (omega arith) })
-first_refused before made rules k number rule fault.Memory so_far next few is refused = tt
+    let past : n - 1 ≡ k = omega arith in (
+      omega arith,
+      subst (λ (m : ℕ). IsFirstAfter (length before) (drop 1 (lines_of rules)) m) (sym past) (record {
+        long = omega (arith, refused.1, same, all, parts, one, behind, others_long, whole, taken);
+        short = omega (arith, same, all, parts, here, first_long, whole, fewer, few);
+      }),
+    )
+rest_refused before made rules k number rule fault.Memory low so_far next few is refused = tt
 
-code_length : (lines : List Line) → length (instructions (code_of lines)) ≡ 2 + length (instructions (lines_code lines)) + 2
-unfolding code_of body_of
+code_length : (lines : List Line) → length (instructions (code_of lines))
+    ≡ length (instructions (opening_of lines)) + length (instructions (lines_code (drop 1 lines))) + 2
+unfolding code_of body_of rules_code
 code_length lines = omega (
   arith,
-  length-append (instructions (lines_code lines)) (set ANSWER (pos 0) ∷ []),
-  length-append (instructions (lines_code lines) ++ set ANSWER (pos 0) ∷ []) (Exit ∷ []),
+  length-append (instructions (opening_of lines)) (instructions (lines_code (drop 1 lines))),
+  length-append (instructions (opening_of lines) ++ instructions (lines_code (drop 1 lines))) (set ANSWER (pos 0) ∷ []),
+  length-append ((instructions (opening_of lines) ++ instructions (lines_code (drop 1 lines))) ++ set ANSWER (pos 0) ∷ []) (Exit ∷ []),
 )
 
-pub code_refused : (lines : List Line) (why : CompileFault) → AreRefusedAfter 2 lines why → AreRefused lines why
-code_refused lines (fault.Slots number) after = record {
-  long = omega (arith, after.long, code_length (take number lines));
-  short = omega (arith, after.short, code_length (take (number - 1) lines));
-}
-code_refused lines fault.Memory after = tt
+opening_taken : (lines : List Line) (n : ℕ) → 1 ≤ n → opening_of (take n lines) ≡ opening_of lines
+unfolding opening_of
+opening_taken lines zero some = absurd (omega arith)
+opening_taken [] (suc n) some = refl
+opening_taken (line ∷ lines) (suc n) some = refl
+
+behind_taken : (lines : List Line) (n : ℕ) → drop 1 (take (suc n) lines) ≡ take n (drop 1 lines)
+behind_taken [] zero = refl
+behind_taken [] (suc n) = refl
+behind_taken (line ∷ lines) n = refl
+
+none_opening : length (instructions (opening_of [])) ≡ 2
+unfolding opening_of
+none_opening = refl
+
+none_behind : length (instructions (lines_code [])) ≡ 0
+unfolding lines_code
+none_behind = refl
+
+-- how long the code of the first rules is
+taken_length : (lines : List Line) (n : ℕ) → length (instructions (code_of (take (suc n) lines)))
+    ≡ length (instructions (opening_of lines)) + length (instructions (lines_code (take n (drop 1 lines)))) + 2
+taken_length lines n =
+    let first = ap (λ (c : Code). length (instructions c)) (opening_taken lines (suc n) (omega arith)) in
+    let rest = ap (λ (l : List Line). length (instructions (lines_code l))) (behind_taken lines n) in
+    omega (arith, code_length (take (suc n) lines), first, rest)
+
+pub first_is_refused : (lines : List Line) (why : CompileFault) →
+    IsRefusedAt (length (instructions (opening_of lines))) 1 why → AreRefused lines why
+first_is_refused lines (fault.Slots number) is =
+    subst (λ (m : ℕ). IsFirstTooLong lines m) (sym is.0) (record {
+      long = omega (arith, is.1, taken_length lines 0);
+      short = omega (arith, code_length [], none_opening, none_behind);
+    })
+first_is_refused lines fault.Memory is = tt
+
+others_from : (made : List Instruction) (lines : List Line) (number : ℕ) → made ≡ instructions (opening_of lines) →
+    2 ≤ number → IsFirstAfter (length made) (drop 1 lines) (number - 1) → IsFirstTooLong lines number
+others_from made lines (suc (suc n)) is some after =
+    let same = ap (λ (l : List Instruction). length l) is in
+    let one : suc (suc n) - 1 ≡ suc n = omega arith in
+    let two : suc n - 1 ≡ n = omega arith in
+    let moved = subst (λ (m : ℕ). IsFirstAfter (length made) (drop 1 lines) m) one after in
+    let less = ap (λ (m : ℕ). length (instructions (lines_code (take m (drop 1 lines))))) two in
+    record {
+      long = omega (arith, same, moved.long, taken_length lines (suc n));
+      short = subst (λ (m : ℕ). length (instructions (code_of (take m lines))) ≤ MAX_SLOTS) (sym one)
+          (omega (arith, same, moved.short, less, taken_length lines n));
+    }
+others_from made lines (suc zero) is some after = absurd (omega arith)
+others_from made lines zero is some after = absurd (omega arith)
+
+pub others_are_refused : (made : List Instruction) (lines : List Line) (why : CompileFault) →
+    made ≡ instructions (opening_of lines) → AreRefusedBehind (length made) lines why → AreRefused lines why
+others_are_refused made lines (fault.Slots number) is after = others_from made lines number is after.0 after.1
+others_are_refused made lines fault.Memory is after = tt
+
+-- the code as it is put together
+pub code_is : (made : List Instruction) (lines : List Line) → made ≡ instructions (opening_of lines) →
+    (made ++ instructions (lines_code (drop 1 lines))) ++ set ANSWER (pos 0) ∷ Exit ∷ [] ≡ instructions (code_of lines)
+unfolding code_of body_of rules_code
+code_is made lines is =
+    ap (λ (l : List Instruction). (l ++ instructions (lines_code (drop 1 lines))) ++ set ANSWER (pos 0) ∷ Exit ∷ []) is
+    ∙ sym (append_assoc (instructions (opening_of lines) ++ instructions (lines_code (drop 1 lines))) (set ANSWER (pos 0) ∷ [])
+    (Exit ∷ []))

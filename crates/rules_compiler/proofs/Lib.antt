@@ -10,6 +10,7 @@ pub mod Layouts
 pub mod SearchFlows
 pub mod ValueFlows
 pub mod NumberFlows
+pub mod KeyFlows
 pub mod TermFlows
 pub mod CompareFlows
 pub mod Shapes
@@ -22,6 +23,7 @@ pub mod SearchEffects
 pub mod TermEffects
 pub mod ValueEffects
 pub mod NumberEffects
+pub mod KeyEffects
 pub mod TextEffects
 pub mod Effects
 pub mod Emissions

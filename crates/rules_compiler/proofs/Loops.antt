@@ -6,7 +6,7 @@ use Rattle.std.proofs.{Math.Seq.drop-cons, lemmas.List.append-nil}
 use Rattle.machine_spec.specs.declared.instruction.Instruction.{Instruction}
 use Rattle.rules.specs.declared.rule.Rule.{Rule}
 use Rattle.rules.specs.Lines.{Line, line_of, lines_of}
-use Rattle.rules.specs.Limits.{IsText}
+use Rattle.rules.specs.Limits.{IsText, FitsText, FitsLine}
 use Rattle.rules_compiler.specs.Code.{instructions}
 use Rattle.rules_compiler.specs.{Rules.line_code, Rules.lines_code}
 
@@ -29,6 +29,25 @@ code_step front made next lines rest line is so_far more =
 pub fits_step : (P : Line → Type 0) (lines rest : List Line) (line : Line) → lines ≡ line ∷ rest →
     AllByRecursion P lines → AllByRecursion P rest
 fits_step P lines rest line is all = (subst (AllByRecursion P) is all).1
+
+-- the rules behind the first one
+pub lines_behind : (rules : List Rule) → lines_of (drop 1 rules) ≡ drop 1 (lines_of rules)
+lines_behind [] = refl
+lines_behind (rule ∷ rules) = refl
+
+no_rules : (n : ℕ) → drop {A = Rule} n [] ≡ []
+no_rules zero = refl
+no_rules (suc n) = refl
+
+pub drop_behind : (rules : List Rule) (k : ℕ) → drop k (drop 1 rules) ≡ drop (k + 1) rules
+drop_behind [] k = no_rules k ∙ sym (no_rules (k + 1))
+drop_behind (rule ∷ rules) k =
+    let one : suc k ≡ k + 1 = omega arith in ap (λ (n : ℕ). drop n (rule ∷ rules)) one
+
+pub fits_behind : (lines : List Line) → AllByRecursion (FitsLine FitsText) lines →
+    AllByRecursion (FitsLine FitsText) (drop 1 lines)
+fits_behind [] fits = tt
+fits_behind (line ∷ lines) fits = fits.1
 
 drop_past : (list : List Rule) (k : ℕ) → length list ≤ k → drop k list ≡ []
 drop_past [] zero past = refl

@@ -31,6 +31,10 @@ use Rattle.rules_compiler.specs.Actions.{drop_code, plain_code, hashed_code, par
 use Rattle.rules_compiler.specs.Actions.{change_call, changed_code}
 use Rattle.rules_compiler.specs.Actions.{output_code, action_code}
 use Rattle.rules_compiler.specs.Rules.{guarded_code, line_code, lines_code, first_code, rest_code, body_of}
+use Rattle.rules_compiler.specs.Rules.{asks_first, key_line_code, opening_code, opening_of, rules_code}
+use Rattle.rules_compiler.proofs.KeyFlows.{key_decided, key_decided_proper, key_condition_flow, first_decided}
+use Rattle.std.proofs.Common.{drop}
+use Rattle.std.proofs.{lemmas.Bool.cond_both}
 use Rattle.rules.specs.Limits.{IsText, FitsPart, FitsOutput, FitsAction, FitsWhen, FitsLine}
 use Rattle.rules_compiler.proofs.Ready.{small_immediate}
 use Rattle.rules_compiler.proofs.Parts.{PartFlow, part_flow}
@@ -299,10 +303,39 @@ rest_flow : Flow rest_code settled ended
 unfolding failed_check falls_to helper_among
 rest_flow = record { passed = refl; within = within_refl ended }
 
+key_line_flow : (c : Option Formula) (block : Code) → FitsWhen IsText c → asks_first c ≡ true → Flow block settled settled →
+    Flow (key_line_code c block) entry_state settled
+unfolding key_line_code
+key_line_flow None block fits asks f = absurd cc
+key_line_flow (Some c) block fits asks f = (
+  key_decided,
+  key_decided_proper,
+  key_condition_flow c fits.tests asks,
+  (decided, decided_proper, first_decided, skip_flow block settled zero_settled f),
+)
+
+opening_flow : (lines : List Line) → AllByRecursion (FitsLine IsText) lines → Flow (opening_of lines) entry_state settled
+unfolding opening_of opening_code
+opening_flow [] fits = first_flow
+opening_flow (line ∷ lines) fits = cond_both (asks_first line.condition)
+    (key_line_code line.condition (action_code line.action)) (Then first_code (line_code line))
+    (λ code. Flow code entry_state settled)
+    (λ asks. key_line_flow line.condition (action_code line.action) fits.0.condition asks
+    (action_flow line.action settled fits.0.action))
+    (λ other. (settled, settled_proper, first_flow, line_flow line fits.0))
+
+behind_fits : (lines : List Line) → AllByRecursion (FitsLine IsText) lines → AllByRecursion (FitsLine IsText) (drop 1 lines)
+behind_fits [] fits = tt
+behind_fits (line ∷ lines) fits = fits.1
+
+rules_flow : (lines : List Line) → AllByRecursion (FitsLine IsText) lines → Flow (rules_code lines) entry_state settled
+unfolding rules_code
+rules_flow lines fits =
+    (settled, settled_proper, opening_flow lines fits, lines_flow (drop 1 lines) (behind_fits lines fits))
+
 pub body_flow : (lines : List Line) → AllByRecursion (FitsLine IsText) lines → Flow (body_of lines) entry_state ended
 unfolding body_of
-body_flow lines fits =
-    (settled, settled_proper, first_flow, (settled, settled_proper, lines_flow lines fits, rest_flow))
+body_flow lines fits = (settled, settled_proper, rules_flow lines fits, rest_flow)
 
 pub ended_proper : is_proper ended ≡ true
 unfolding is_proper

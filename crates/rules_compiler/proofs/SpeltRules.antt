@@ -12,18 +12,21 @@ use Rattle.rules.specs.declared.rule.Output.TheVariants as output
 use Rattle.rules.specs.declared.rule.Action.TheVariants as action
 use Rattle.rules.specs.Lines.{Formula, Line}
 use Rattle.rules.specs.Limits.{IsText, FitsPart, FitsEnd, FitsOutput, FitsAdded, FitsAction, FitsWhen, FitsLine}
-use Rattle.rules_compiler.specs.Code.{Code, Ends}
+use Rattle.rules_compiler.specs.Code.{Code, Ends, Then}
 use Rattle.rules_compiler.specs.Pieces.{set, copy, change, number_code, text_code}
 use Rattle.rules_compiler.specs.Pieces.{part_code}
 use Rattle.rules_compiler.specs.declared.pieces.TheConstants.{NEAR, FAR}
 use Rattle.rules_compiler.specs.Actions.{drop_code, plain_code, hashed_code, part_cut_code, rest_cut_code, cut_code, output_code}
 use Rattle.rules_compiler.specs.Actions.{change_call, changed_code, name_header, added_code, with_added, action_code}
-use Rattle.rules_compiler.specs.Rules.{guarded_code, line_code, lines_code, body_of}
+use Rattle.rules_compiler.specs.Rules.{guarded_code, line_code, lines_code, first_code, asks_first, key_line_code}
+use Rattle.rules_compiler.specs.Rules.{opening_code, opening_of, rules_code, body_of}
+use Rattle.std.proofs.Common.{drop}
+use Rattle.std.proofs.{lemmas.Bool.cond_both}
 use Rattle.rules_compiler.proofs.Spelt.{fits_imm, fits_zero}
 use Rattle.rules_compiler.proofs.Spelt.{spelt_call, spelt_change, spelt_copy, spelt_exit}
 use Rattle.rules_compiler.proofs.Spelt.{spelt_set}
 use Rattle.rules_compiler.proofs.SpeltCode.{Spells, number_spelt, part_spelt, set_zero}
-use Rattle.rules_compiler.proofs.SpeltTests.{condition_spells}
+use Rattle.rules_compiler.proofs.SpeltTests.{condition_spells, key_condition_spells}
 use Rattle.rules_compiler.proofs.SpeltCode.{spells_plain, spells_then, spells_unless, spelt_near, spelt_far, text_spelt}
 use Rattle.rules_compiler.proofs.Texts.{near_stands, far_stands}
 use Rattle.rules_compiler.proofs.Spelt.{spelt_call, spelt_set}
@@ -188,8 +191,28 @@ unfolding lines_code
 lines_spell [] fits = spells_plain [] tt
 lines_spell (line ∷ lines) fits = spells_then (line_spells line fits.0) (lines_spell lines fits.1)
 
+first_spells : Spells first_code
+first_spells = spells_plain (copy 7 2 ∷ copy 9 1 ∷ []) (spelt_copy 7 refl 2 refl, (spelt_copy 9 refl 1 refl, tt))
+
+key_line_spells : (c : Option Formula) (block : Code) → FitsWhen IsText c → Spells block → Spells (key_line_code c block)
+unfolding key_line_code
+key_line_spells None block fits x = spells_then first_spells x
+key_line_spells (Some c) block fits x = spells_then (key_condition_spells c fits.tests)
+    (spells_then first_spells (spells_unless jumps.Equal 8 (pos 0) refl fits_zero x))
+
+opening_spells : (lines : List Line) → AllByRecursion (FitsLine IsText) lines → Spells (opening_of lines)
+unfolding opening_of opening_code
+opening_spells [] fits = first_spells
+opening_spells (line ∷ lines) fits = cond_both (asks_first line.condition)
+    (key_line_code line.condition (action_code line.action)) (Then first_code (line_code line)) (λ code. Spells code)
+    (λ asks. key_line_spells line.condition (action_code line.action) fits.0.condition (action_spells line.action fits.0.action))
+    (λ other. spells_then first_spells (line_spells line fits.0))
+
+behind_fits : (lines : List Line) → AllByRecursion (FitsLine IsText) lines → AllByRecursion (FitsLine IsText) (drop 1 lines)
+behind_fits [] fits = tt
+behind_fits (line ∷ lines) fits = fits.1
+
 pub body_spells : (lines : List Line) → AllByRecursion (FitsLine IsText) lines → Spells (body_of lines)
-unfolding body_of
-body_spells lines fits = spells_then
-    (spells_plain (copy 7 2 ∷ copy 9 1 ∷ []) (spelt_copy 7 refl 2 refl, (spelt_copy 9 refl 1 refl, tt)))
-    (spells_then (lines_spell lines fits) (spells_plain (set 0 (pos 0) ∷ []) (set_zero 0 refl, tt)))
+unfolding body_of rules_code
+body_spells lines fits = spells_then (spells_then (opening_spells lines fits) (lines_spell (drop 1 lines) (behind_fits lines fits)))
+    (spells_plain (set 0 (pos 0) ∷ []) (set_zero 0 refl, tt))

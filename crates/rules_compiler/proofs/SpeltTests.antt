@@ -4,7 +4,7 @@ use Rattle.machine_spec.specs.declared.instruction.Source.TheVariants.{Immediate
 use Rattle.rules_compiler.specs.Tests.{is_plain, value_length_code, term_compare_code}
 use Rattle.rules.specs.Meaning.{compares}
 use Rattle.std.proofs.lemmas.Bool.{and_parts}
-use Rattle.std.proofs.Common.{not}
+use Rattle.std.proofs.Common.{not, ◌≡◌, true, nat_le}
 use Rattle.std.proofs.Common.{ℕ, zero, suc, ◌+◌, ◌-◌, ◌^◌, ◌<◌, ◌≤◌, pos, nat_lt}
 use Rattle.std.proofs.Common.{List, [], ◌∷◌, ◌++◌, length, refl, arith}
 use Rattle.std.proofs.{lemmas.Bool.cond_both}
@@ -33,7 +33,7 @@ use Rattle.machine_spec.specs.declared.instruction.Extension.TheVariants.{Zero}
 use Rattle.rules_compiler.specs.Tests.{look, sized, mark, searches_code, has_code}
 use Rattle.rules_compiler.specs.declared.searches.TheConstants.{LOOKED_AT, OTHERS, PLACES}
 use Rattle.rules_compiler.specs.Tests.{stands, text_test_code, length_test_code, test_of, comparing_code, compare_code, test_code}
-use Rattle.rules_compiler.specs.Rules.{condition_code}
+use Rattle.rules_compiler.specs.Rules.{condition_code, key_test_code, key_single_code, key_condition_code}
 use Rattle.rules_compiler.proofs.Images.{IsSpelt, AreSpelt}
 use Rattle.rules_compiler.proofs.Spelt.{fits_imm, fits_zero, spelt_against}
 use Rattle.rules_compiler.proofs.Spelt.{spelt_call, spelt_change, spelt_copy}
@@ -50,7 +50,7 @@ use Rattle.machine_spec.specs.declared.instruction.Source.TheVariants.{Register}
 use Rattle.machine_spec.specs.declared.operation.Operation.TheVariants.{Add, LeftShift}
 use Rattle.machine_spec.specs.declared.operation.Width.TheVariants.{Bits64}
 use Rattle.rules_compiler.proofs.Spelt.{fits_nothing}
-use Rattle.rules_compiler.specs.Tests.{match_code, value_test_code, is_short, equal_code, begins_code}
+use Rattle.rules_compiler.specs.Tests.{match_code, match_test_code, value_test_code, is_short, equal_code, begins_code}
 use Rattle.rules_compiler.specs.declared.values.TheConstants.{REACH}
 use Rattle.rules_compiler.proofs.NumberFlows.{behind_first}
 use Rattle.rules_compiler.proofs.Spelt.{fits_distance}
@@ -240,21 +240,62 @@ has_spells p text fits is = spells_then
     (part_spelt p (text_code NEAR text ++ set 8 (pos 0) ∷ []) fits (text_spelt near_stands text (set 8 (pos 0) ∷ []) is (set_zero 8 refl, tt))))
     (searches_spell (length text) 0 OTHERS is.few (omega arith))
 
-match_spells : (text : List ℕ) (place : ℕ) → AllByRecursion (λ byte. byte < 256) text → place + length text < 2 ^ 15 →
-    Spells (match_code text place)
+match_spells : (base : ℕ) → ((place : ℕ) → place < 2 ^ 15 → IsSpelt (Load Size.Byte Zero 0 base (pos place))) →
+    (text : List ℕ) (place : ℕ) → AllByRecursion (λ byte. byte < 256) text → place + length text < 2 ^ 15 →
+    Spells (match_code base text place)
 unfolding match_code
-match_spells [] place bytes near = spells_plain (set 8 (pos 1) ∷ []) (set_one 8 refl, tt)
-match_spells (byte ∷ text) place bytes near = spells_then
-    (spells_plain (Load Size.Byte Zero 0 9 (pos place) ∷ []) (spelt_value_load Size.Byte place (omega arith), tt))
+match_spells base loads [] place bytes near = spells_plain (set 8 (pos 1) ∷ []) (set_one 8 refl, tt)
+match_spells base loads (byte ∷ text) place bytes near = spells_then
+    (spells_plain (Load Size.Byte Zero 0 base (pos place) ∷ []) (loads place (omega arith), tt))
     (spells_unless jumps.NotEqual 0 (pos byte) refl (fits_imm byte (omega (arith, bytes.0)))
-    (match_spells text (place + 1) bytes.1 (omega arith)))
+    (match_spells base loads text (place + 1) bytes.1 (omega arith)))
 
-value_test_spells : (text : List ℕ) (how : Jumps) → IsText text → Spells (value_test_code text how)
-unfolding value_test_code
-value_test_spells text how is =
+match_test_spells : (base long : ℕ) → ((place : ℕ) → place < 2 ^ 15 → IsSpelt (Load Size.Byte Zero 0 base (pos place))) →
+    nat_le long 10 ≡ true → (text : List ℕ) (how : Jumps) → IsText text → Spells (match_test_code base long text how)
+unfolding match_test_code
+match_test_spells base long loads low text how is =
     let few = is.few in
     spells_then (spells_plain (set 8 (pos 0) ∷ []) (set_zero 8 refl, tt))
-    (spells_unless how 7 (pos (length text)) refl (fits_imm (length text) (omega arith)) (match_spells text 0 is.bytes (omega arith)))
+    (spells_unless how long (pos (length text)) low (fits_imm (length text) (omega arith))
+    (match_spells base loads text 0 is.bytes (omega arith)))
+
+value_test_spells : (text : List ℕ) (how : Jumps) → IsText text → Spells (value_test_code text how)
+value_test_spells text how is = match_test_spells 9 7 (spelt_value_load Size.Byte) refl text how is
+
+spelt_key_load : (place : ℕ) → place < 2 ^ 15 → IsSpelt (Load Size.Byte Zero 0 3 (pos place))
+unfolding read_fields template_of
+spelt_key_load place near = record {
+  reads = λ slot. refl;
+  names = record { dst = omega arith; src = omega arith; changed = omega arith };
+  upper = refl;
+  narrow = refl;
+  slots = refl;
+  offset = fits_distance place near;
+  imm = fits_zero;
+}
+
+-- ---- tests of the key, in the first rule
+
+key_test_spells : (t : Tests) → FitsTest IsText t → Spells (key_test_code t)
+unfolding key_test_code
+key_test_spells (test.Equal p text) fits = match_test_spells 3 4 spelt_key_load refl text jumps.NotEqual fits.1
+key_test_spells (test.Begins p text) fits = match_test_spells 3 4 spelt_key_load refl text jumps.Less fits.1
+key_test_spells t fits = spells_plain [] tt
+
+key_single_spells : (c : Formula) → HasFitting IsText c → Spells (key_single_code c)
+unfolding key_single_code
+key_single_spells (Single t) fits = key_test_spells t fits
+key_single_spells c fits = spells_plain [] tt
+
+pub key_condition_spells : (c : Formula) → HasFitting IsText c → Spells (key_condition_code c)
+unfolding key_condition_code
+key_condition_spells (Negated inner) fits = spells_then (key_single_spells inner fits)
+    (spells_plain (change Xor 8 (pos 1) ∷ []) (spelt_change 8 refl Xor (pos 1) refl (fits_imm 1 (omega arith)), tt))
+key_condition_spells (Single t) fits = key_single_spells (Single t) fits
+key_condition_spells (Both one other) fits = key_single_spells (Both one other) fits
+key_condition_spells (Either one other) fits = key_single_spells (Either one other) fits
+
+-- ---- tests of texts
 
 equal_spells : (p : Part) (text : List ℕ) → FitsPart IsText p → IsText text → Spells (equal_code p text)
 unfolding equal_code

@@ -23,14 +23,14 @@ use Rattle.rules.specs.Meaning.{passes_if, test_equals, test_begins}
 use Rattle.rules.specs.Limits.{IsText}
 use Rattle.rules_compiler.specs.Code.{Plain, Unless}
 use Rattle.rules_compiler.specs.Pieces.{set}
-use Rattle.rules_compiler.specs.Tests.{match_code, value_test_code}
+use Rattle.rules_compiler.specs.Tests.{match_code, match_test_code, value_test_code}
 use Rattle.rules_compiler.proofs.Ready.{Ready, small_immediate}
 use Rattle.rules_compiler.proofs.Walks.{run_list}
 use Rattle.rules_compiler.proofs.Courses.{Decides, skip_decides, enter_decides, list_decides, then_decides}
 
 -- ---- texts
 
-got : (l : List ℕ) (k : ℕ) → unwrap_or (slice_get l k) 0 ≡ get_or l k 0
+pub got : (l : List ℕ) (k : ℕ) → unwrap_or (slice_get l k) 0 ≡ get_or l k 0
 got [] zero = refl
 got [] (suc k) = refl
 got (x ∷ l) zero = refl
@@ -73,14 +73,14 @@ module _ (input : Input) (given : IsInput input) where
 
   match_decides : (text : List ℕ) (place : ℕ) (s : State) → Ready input s → s.registers 8 ≡ Number 0 →
       place + length text ≤ length (bytes_of input.given.value) → AllByRecursion (λ byte. byte < 256) text →
-      Decides input (match_code text place) s (starts_with nat_eq (drop place (bytes_of input.given.value)) text)
+      Decides input (match_code 9 text place) s (starts_with nat_eq (drop place (bytes_of input.given.value)) text)
   unfolding match_code
   match_decides [] place s ready truth within bytes = list_decides input (set 8 (pos 1) ∷ []) s true (one_ready s ready) (one_truth s)
   match_decides (byte ∷ text) place s ready truth within bytes =
       let all = bytes_of input.given.value in
       let x = get_or (bytes_of input.given.value) place 0 in
       let t = run_list input (Load Size.Byte Zero 0 9 (pos place) ∷ []) s in
-      let block = match_code text (place + 1) in
+      let block = match_code 9 text (place + 1) in
       let rest = drop (suc place) (bytes_of input.given.value) in
       let parts = drop-cons (bytes_of input.given.value) place 0 (omega arith) in
       let one : place + 1 ≡ suc place = omega arith in
@@ -90,14 +90,14 @@ module _ (input : Input) (given : IsInput input) where
       let zero_is = byte_truth s place ∙ truth in
       then_decides input (Plain (Load Size.Byte Zero 0 9 (pos place) ∷ [])) (Unless jumps.NotEqual 0 (Immediate (pos byte)) block) s t
       (starts_with nat_eq (drop place (bytes_of input.given.value)) (byte ∷ text)) refl
-      (subst (Decides input (Unless jumps.NotEqual 0 (Immediate (pos byte)) (match_code text (place + 1))) t)
+      (subst (Decides input (Unless jumps.NotEqual 0 (Immediate (pos byte)) (match_code 9 text (place + 1))) t)
       (sym (first_is x byte rest text (drop place (bytes_of input.given.value)) parts)) (⊎_elim
       (λ same.
       let test = eq-eqb x byte same in
       let turned = eq-eqb byte x (sym same) in
       rw turned (enter_decides input jumps.NotEqual 0 (Immediate (pos byte)) block t (starts_with nat_eq rest text)
       (rw (answer, imm, test) refl)
-      (subst (λ (n : ℕ). Decides input (match_code text (place + 1)) (goes_to t (t.slot + 1))
+      (subst (λ (n : ℕ). Decides input (match_code 9 text (place + 1)) (goes_to t (t.slot + 1))
       (starts_with nat_eq (drop n (bytes_of input.given.value)) text)) one
       (match_decides text (place + 1) (goes_to t (t.slot + 1)) (assumption clear) zero_is (omega arith) bytes.1))))
       (λ apart.
@@ -119,15 +119,15 @@ module _ (input : Input) (given : IsInput input) where
       is_taken Bits64 how (Number (length (bytes_of input.given.value))) (Number (length text)) ≡ b →
       (b ≡ false → length text ≤ length (bytes_of input.given.value)) →
       Decides input (value_test_code text how) s (not b && starts_with nat_eq (bytes_of input.given.value) text)
-  unfolding value_test_code
+  unfolding match_test_code
   value_decides text how true is s ready taken within =
       let t = run_list input (set 8 (pos 0) ∷ []) s in
       let clear = zero_ready s ready in
       let few = is.few in
       let imm = small_immediate (length text) (omega arith) in
       let long = clear.length_is in
-      then_decides input (Plain (set 8 (pos 0) ∷ [])) (Unless how 7 (Immediate (pos (length text))) (match_code text 0)) s t false refl
-      (skip_decides input how 7 (Immediate (pos (length text))) (match_code text 0) t false (rw (long, imm) taken) clear (zero_truth s))
+      then_decides input (Plain (set 8 (pos 0) ∷ [])) (Unless how 7 (Immediate (pos (length text))) (match_code 9 text 0)) s t false refl
+      (skip_decides input how 7 (Immediate (pos (length text))) (match_code 9 text 0) t false (rw (long, imm) taken) clear (zero_truth s))
   value_decides text how false is s ready taken within =
       let t = run_list input (set 8 (pos 0) ∷ []) s in
       let clear = zero_ready s ready in
@@ -136,8 +136,8 @@ module _ (input : Input) (given : IsInput input) where
       let long = clear.length_is in
       let enough = within refl in
       let b = starts_with nat_eq (bytes_of input.given.value) text in
-      then_decides input (Plain (set 8 (pos 0) ∷ [])) (Unless how 7 (Immediate (pos (length text))) (match_code text 0)) s t b refl
-      (enter_decides input how 7 (Immediate (pos (length text))) (match_code text 0) t b (rw (long, imm) taken)
+      then_decides input (Plain (set 8 (pos 0) ∷ [])) (Unless how 7 (Immediate (pos (length text))) (match_code 9 text 0)) s t b refl
+      (enter_decides input how 7 (Immediate (pos (length text))) (match_code 9 text 0) t b (rw (long, imm) taken)
       (match_decides text 0 (goes_to t (t.slot + 1)) (assumption clear) (zero_truth s) (omega arith) is.bytes))
 
 -- ---- what it means
@@ -185,7 +185,7 @@ shorter (x ∷ bytes) (byte ∷ text) less = from (nat_eq byte x) (shorter bytes
     from false e = refl
 shorter bytes [] less = absurd (omega arith)
 
-equal_is : (o : Option (List ℕ)) (text : List ℕ) → 1 ≤ length text →
+pub equal_is : (o : Option (List ℕ)) (text : List ℕ) → 1 ≤ length text →
     (not (not (length (bytes_of o) == length text)) && starts_with nat_eq (bytes_of o) text)
     ≡ passes_if (λ bytes. bytes_eq bytes text) o
 equal_is None text some = let apart = ne_eqb 0 (length text) (λ e. omega arith) in rw apart refl
@@ -194,7 +194,7 @@ equal_is (Some bytes) text some = ⊎_elim
     (λ apart. let test = ne_eqb (length bytes) (length text) apart in rw test (sym (other_length bytes text apart)))
     (cases_eq (length bytes) (length text))
 
-begins_is : (o : Option (List ℕ)) (text : List ℕ) → 1 ≤ length text →
+pub begins_is : (o : Option (List ℕ)) (text : List ℕ) → 1 ≤ length text →
     (not (nat_lt (length (bytes_of o)) (length text)) && starts_with nat_eq (bytes_of o) text)
     ≡ passes_if (λ bytes. starts_with nat_eq bytes text) o
 begins_is None text some = let less = lt-ltb 0 (length text) (omega arith) in rw less refl

@@ -23,7 +23,7 @@ use Rattle.verifier_spec.proofs.Order.{within_from, each_below_at, narrower_from
 use Rattle.rules.specs.declared.rule.Layout.TheVariants.{Byte}
 use Rattle.rules_compiler.specs.Code.{instructions}
 use Rattle.rules_compiler.specs.Pieces.{set}
-use Rattle.rules_compiler.specs.Tests.{match_code, value_test_code}
+use Rattle.rules_compiler.specs.Tests.{match_code, match_test_code, value_test_code}
 use Rattle.rules_compiler.proofs.Flows.{Flow, Passing, Skips}
 use Rattle.rules_compiler.proofs.Ready.{small_immediate}
 use Rattle.rules_compiler.proofs.Texts.{LeadsTo}
@@ -213,7 +213,7 @@ read_jumps least (Some range) =
     (omega arith) (omega arith)
 
 pub match_flow : (text : List ℕ) (place least : ℕ) → place + length text ≤ least → least ≤ MAX_VALUE →
-    Flow (match_code text place) (ranged least MAX_VALUE Abs.None (Abs.Num 0 0)) decided
+    Flow (match_code 9 text place) (ranged least MAX_VALUE Abs.None (Abs.Num 0 0)) decided
 unfolding match_code failed_check falls_to jumps_to each_below
 match_flow [] place least within few = record {
   passed = refl;
@@ -243,14 +243,14 @@ unfolding is_proper
 cleared_proper = refl
 
 pub equal_flow : (byte : ℕ) (text : List ℕ) → length text ≤ 255 → Flow (value_test_code (byte ∷ text) jumps.NotEqual) settled decided
-unfolding value_test_code
+unfolding match_test_code
 equal_flow byte text few = (
   cleared,
   cleared_proper,
   clears,
   (
     ranged (suc (length text)) MAX_VALUE Abs.None (Abs.Num 0 0),
-    other_skips (suc (length text)) (length (instructions (match_code (byte ∷ text) 0))) (omega arith) (omega arith),
+    other_skips (suc (length text)) (length (instructions (match_code 9 (byte ∷ text) 0))) (omega arith) (omega arith),
     match_flow (byte ∷ text) 0 (suc (length text)) (omega arith) (omega arith),
   ),
 )
@@ -273,14 +273,14 @@ module _ (n c : ℕ) where
   zero_valued = refl
 
 pub begins_flow : (byte : ℕ) (text : List ℕ) → length text ≤ 255 → Flow (value_test_code (byte ∷ text) jumps.Less) settled decided
-unfolding value_test_code
+unfolding match_test_code
 begins_flow byte text few = (
   cleared,
   cleared_proper,
   clears,
   (
     ranged (suc (length text)) MAX_VALUE Abs.None (Abs.Num 0 0),
-    less_skips (suc (length text)) (length text) (length (instructions (match_code (byte ∷ text) 0))) refl (omega arith) Abs.None
+    less_skips (suc (length text)) (length text) (length (instructions (match_code 9 (byte ∷ text) 0))) refl (omega arith) Abs.None
         (none_kept (suc (length text)) (length text)) Abs.None bit (none_decided (suc (length text)) (length text)),
     match_flow (byte ∷ text) 0 (suc (length text)) (omega arith) (omega arith),
   ),

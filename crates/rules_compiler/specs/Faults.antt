@@ -1,5 +1,5 @@
 -- Why rules are not compiled.
-use Rattle.std.specs.Prelude.{◌≡◌, ℕ, ◌+◌, ◌-◌, ◌<◌, ◌≤◌, List, length, take, ⊤}
+use Rattle.std.specs.Prelude.{◌≡◌, ℕ, ◌+◌, ◌-◌, ◌<◌, ◌≤◌, List, length, take, drop, ⊤}
 use Rattle.machine_spec.specs.declared.{instruction.Instruction.Instruction, limits.TheConstants.MAX_SLOTS}
 use Rattle.rules.specs.Lines.{Line}
 use Rattle.rules_compiler.specs.{Code.instructions, Rules.lines_code, Rules.code_of}
@@ -27,9 +27,10 @@ pub record IsFirstAfter (before : ℕ) (lines : List Line) (number : ℕ) : Type
   pub long : MAX_SLOTS < before + length (instructions (lines_code (take number lines))) + 2
   pub short : before + length (instructions (lines_code (take (number - 1) lines))) + 2 ≤ MAX_SLOTS
 
-abbrev pub AreRefusedAfter : (before : ℕ) → List Line → CompileFault → Type 0
-AreRefusedAfter before lines (fault.Slots number) = IsFirstAfter before lines number
-AreRefusedAfter before lines fault.Memory = ⊤
+-- why the rules behind the first one are refused, which are named by their numbers among all
+abbrev pub AreRefusedBehind : (before : ℕ) → List Line → CompileFault → Type 0
+AreRefusedBehind before lines (fault.Slots number) = (2 ≤ number) × IsFirstAfter before (drop 1 lines) (number - 1)
+AreRefusedBehind before lines fault.Memory = ⊤
 
 -- A rule is named by its number, from 1: with it the code of the rules has more instructions than an image may have,
 -- and with those before it alone it has not.

@@ -46,25 +46,29 @@ text_test_code p text how number = Then (Plain (part_code p ++ (text_code NEAR t
     (Unless jumps.Equal TRUTH (Immediate (pos 0)) (Then (Plain sized)
     (Unless how ANSWER (Immediate (pos number)) (Plain (set TRUTH (pos 0) ∷ [])))))
 
--- ---- short texts of the value
+-- ---- short texts at an address that a register has
 
--- a byte of the value is compared, after which so many others are
-abbrev pub match_byte : (place byte left : ℕ) → List Instruction
-match_byte place byte left = Load Size.Byte Zero ANSWER VALUE (pos place)
+-- a byte is compared, after which so many others are
+abbrev pub match_byte : (base place byte left : ℕ) → List Instruction
+match_byte base place byte left = Load Size.Byte Zero ANSWER base (pos place)
     ∷ JumpIf Bits64 jumps.NotEqual ANSWER (Immediate (pos byte)) (pos (2 * left + 1)) ∷ []
 
--- r8 gets 1 where the value has the bytes of a text from a place on
-unfoldable pub match_code : List ℕ → ℕ → Code
-match_code [] place = Plain (set TRUTH (pos 1) ∷ [])
-match_code (byte ∷ text) place = Then (Plain (Load Size.Byte Zero ANSWER VALUE (pos place) ∷ []))
-    (Unless jumps.NotEqual ANSWER (Immediate (pos byte)) (match_code text (place + 1)))
+-- r8 gets 1 where the bytes of a text stand there from a place on
+unfoldable pub match_code : (base : ℕ) → List ℕ → ℕ → Code
+match_code base [] place = Plain (set TRUTH (pos 1) ∷ [])
+match_code base (byte ∷ text) place = Then (Plain (Load Size.Byte Zero ANSWER base (pos place) ∷ []))
+    (Unless jumps.NotEqual ANSWER (Immediate (pos byte)) (match_code base text (place + 1)))
 
--- the value begins with a text, and its length compared with the text's fails a test
-unfoldable pub value_test_code : List ℕ → Jumps → Code
-value_test_code text how = Then (Plain (set TRUTH (pos 0) ∷ []))
-    (Unless how LENGTH (Immediate (pos (length text))) (match_code text 0))
+-- the part at the address begins with a text, and its length compared with the text's fails a test
+unfoldable pub match_test_code : (base long : ℕ) → List ℕ → Jumps → Code
+match_test_code base long text how = Then (Plain (set TRUTH (pos 0) ∷ []))
+    (Unless how long (Immediate (pos (length text))) (match_code base text 0))
 
--- a text is compared with the value byte by byte
+-- the same of the value
+abbrev pub value_test_code : List ℕ → Jumps → Code
+value_test_code text how = match_test_code VALUE LENGTH text how
+
+-- a text is compared byte by byte
 abbrev pub is_short : List ℕ → Bool
 is_short text = nat_lt 0 (length text) && nat_le (length text) SHORT
 

@@ -17,6 +17,7 @@ mod blocks;
 mod conditions;
 mod fault;
 mod loads;
+mod openings;
 mod pieces;
 mod program;
 mod searches;

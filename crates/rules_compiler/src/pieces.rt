@@ -23,6 +23,12 @@ pub const TRUTH: u8 = 8;
 /// The address of the value.
 pub const VALUE: u8 = 9;
 
+/// The address of the key, before a helper is called.
+pub const KEY: u8 = 3;
+
+/// How many bytes the key has, before a helper is called.
+pub const KEY_LENGTH: u8 = 4;
+
 /// The address of the stack's end.
 pub const FRAME: u8 = 10;
 

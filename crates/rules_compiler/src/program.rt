@@ -1,47 +1,24 @@
 //! From rules to an image.
 
-ghost use Rattle.std.specs.Prelude.{◌≡◌, ◌+◌, ◌≤◌, ◌++◌, length, IfOk, OnOk, IfErr, All};
+ghost use Rattle.std.specs.Prelude.{◌≡◌, ◌+◌, ◌≤◌, ◌++◌, length, drop, IfOk, OnOk, IfErr, All};
 ghost use Rattle.std.specs.List.{flat_map, AllByRecursion};
 ghost use Rattle.bpf_isa.specs.Spelling.{spelling, HasRegisters};
 ghost use Rattle.rules.specs.Limits.{FitsText, FitsLine, AreRules};
 ghost use Rattle.rules.specs.Lines.{line_of, lines_of};
 ghost use Rattle.rules_compiler.specs.Code.{instructions};
-ghost use Rattle.rules_compiler.specs.Faults.{IsTooLong, IsRefusedAt, AreRefusedAfter, AreRefused};
+ghost use Rattle.rules_compiler.specs.Faults.{IsRefusedAt, AreRefusedBehind, AreRefused};
 ghost use Rattle.rules_compiler.specs.Programs.{IsProgramOf};
 ghost use Rattle.rules_compiler.specs.declared.fault.CompileFault.TheVariants.{Memory};
 ghost use Rattle.rules_compiler.specs.Rules as definitions;
 
-use crate::actions::put_action;
-use crate::blocks::put_unless;
-use crate::conditions::put_condition;
-use crate::fault::{CompileFault, Refusal, at_rule};
-use crate::pieces::{ANSWER, LENGTH, VALUE, copy, set};
+use crate::fault::{CompileFault, at_rule};
+use crate::openings::{put_first, put_opening, put_rule};
+use crate::pieces::{ANSWER, set};
 use crate::text_bytes::rules_have_texts;
 use bytes::Bytes;
-use machine_spec::{Instruction, MAX_SLOTS, Test};
+use machine_spec::{Instruction, MAX_SLOTS};
 use rules::Rule;
 use std::alloc::Global;
-
-/// A rule: the action is left out where the condition does not hold.
-#[tactic(auto, unfolding(crate::specs::Rules::line_code))]
-fn put_rule(alloc: Global, code: &mut Vec<Instruction>, rule: &Rule) -> Result<(), Refusal>
-    requires { FitsLine FitsText (line_of rule.now) }
-    ensures code { OnOk result (code.new.items ≡ code.old.items ++ instructions (definitions.line_code (line_of rule.now))) }
-    ensures long { IfErr result (IsTooLong (instructions (definitions.line_code (line_of rule.now)))) }
-{
-    match &rule.condition {
-        Some(condition) => {
-            put_condition(alloc, code, condition)?;
-            let mut block = Vec::new(alloc);
-            put_action(&mut block, &rule.action)?;
-            put_unless(code, Test::Equal, &block)
-        }
-        None => {
-            put_action(code, &rule.action)?;
-            Ok(())
-        }
-    }
-}
 
 /// Adds the code of the rule with this number.
 fn add_rule(
@@ -63,22 +40,47 @@ fn add_rule(
     }
 }
 
-/// Adds the code of each rule.
-fn add_rules(alloc: Global, code: &mut Vec<Instruction>, rules: &[Rule]) -> Result<(), CompileFault>
+/// Adds the code of the first rule, if there is one.
+#[tactic(auto, unfolding(crate::specs::Rules::opening_of))]
+fn add_opening(
+    alloc: Global,
+    code: &mut Vec<Instruction>,
+    rules: &[Rule],
+) -> Result<(), CompileFault>
     requires fits { AllByRecursion (FitsLine FitsText) (lines_of rules.now) }
-    requires few { length code.old.items + 2 ≤ MAX_SLOTS }
-    ensures code { OnOk result (code.new.items ≡ code.old.items ++ instructions (definitions.lines_code (lines_of rules.now))) }
+    requires empty { length code.old.items ≡ 0 }
+    ensures code { OnOk result (code.new.items ≡ code.old.items ++ instructions (definitions.opening_of (lines_of rules.now))) }
     ensures few { OnOk result (length code.new.items + 2 ≤ MAX_SLOTS) }
-    ensures refused { IfErr result (AreRefusedAfter (length code.old.items) (lines_of rules.now)) }
+    ensures refused { IfErr result (IsRefusedAt (length (instructions (definitions.opening_of (lines_of rules.now)))) 1) }
 {
-    for k in 0..rules.len() {
+    if rules.is_empty() {
+        put_first(code)?;
+        return Ok(());
+    }
+    match put_opening(alloc, code, &rules[0]) {
+        Ok(()) if code.len() <= MAX_SLOTS - 2 => Ok(()),
+        Ok(()) => Err(CompileFault::Slots(1)),
+        Err(refusal) => Err(at_rule(1, refusal)),
+    }
+}
+
+/// Adds the code of each rule behind the first one.
+#[tactic(auto, using(crate::proofs::Loops::lines_behind))]
+fn add_rules(alloc: Global, code: &mut Vec<Instruction>, rules: &[Rule]) -> Result<(), CompileFault>
+    requires fits { AllByRecursion (FitsLine FitsText) (drop 1 (lines_of rules.now)) }
+    requires few { length code.old.items + 2 ≤ MAX_SLOTS }
+    ensures code { OnOk result (code.new.items ≡ code.old.items ++ instructions (definitions.lines_code (drop 1 (lines_of rules.now)))) }
+    ensures few { OnOk result (length code.new.items + 2 ≤ MAX_SLOTS) }
+    ensures refused { IfErr result (AreRefusedBehind (length code.old.items) (lines_of rules.now)) }
+{
+    for k in 1..rules.len() {
         add_rule(alloc, code, &rules[k], k + 1)?;
     }
     Ok(())
 }
 
 /// The code of rules.
-#[tactic(auto, unfolding(crate::specs::Rules::code_of, crate::specs::Rules::body_of))]
+#[tactic(auto, using(crate::proofs::Loops::fits_behind, crate::proofs::Lengths::code_is, crate::proofs::Lengths::first_is_refused, crate::proofs::Lengths::others_are_refused))]
 fn code_of(alloc: Global, rules: &[Rule]) -> Result<Vec<Instruction>, CompileFault>
     requires { AllByRecursion (FitsLine FitsText) (lines_of rules.now) }
     ensures code { IfOk result (λ code. code.items ≡ instructions (definitions.code_of (lines_of rules.now))) }
@@ -86,7 +88,7 @@ fn code_of(alloc: Global, rules: &[Rule]) -> Result<Vec<Instruction>, CompileFau
     ensures refused { IfErr result (AreRefused (lines_of rules.now)) }
 {
     let mut code = Vec::new(alloc);
-    code.extend_from_slice(&[copy(LENGTH, 2), copy(VALUE, 1)])?;
+    add_opening(alloc, &mut code, rules)?;
     add_rules(alloc, &mut code, rules)?;
     code.extend_from_slice(&[set(ANSWER, 0), Instruction::Exit])?;
     Ok(code)

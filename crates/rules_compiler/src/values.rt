@@ -1,4 +1,4 @@
-//! What is read in the value itself, where a call would take longer.
+//! What is read in the value or the key itself, where a call would take longer.
 
 ghost use Rattle.std.specs.Prelude.{◌≡◌, ◌+◌, ◌<◌, ◌≤◌, ◌++◌, length, pos, OnOk};
 ghost use Rattle.rules.specs.Limits.{FitsText};
@@ -26,19 +26,20 @@ pub fn is_short(text: &Text) -> bool
     !text.bytes.is_empty() && text.bytes.len() <= SHORT
 }
 
-/// A byte of the value is compared, after which so many others are.
+/// A byte is compared, after which so many others are.
 fn put_byte(
     code: &mut Vec<Instruction>,
+    base: u8,
     place: usize,
     byte: u8,
     left: usize,
 ) -> Result<(), AllocError>
     requires place { place ≤ 255 }
     requires left { left ≤ 255 }
-    ensures { OnOk result (code.new.items ≡ code.old.items ++ definitions.match_byte place byte left) }
+    ensures { OnOk result (code.new.items ≡ code.old.items ++ definitions.match_byte base place byte left) }
 {
     code.extend_from_slice(&[
-        Instruction::Load(Size::Byte, Extension::Zero, ANSWER, VALUE, place as i16),
+        Instruction::Load(Size::Byte, Extension::Zero, ANSWER, base, place as i16),
         skip_if(
             Test::NotEqual,
             ANSWER,
@@ -48,31 +49,45 @@ fn put_byte(
     ])
 }
 
-/// r8 gets 1 where the value begins with a text.
+/// r8 gets 1 where the part at an address begins with a text.
 #[tactic(auto, using(crate::proofs::Lengths::match_end), unfolding(crate::specs::Tests::match_code))]
-fn put_match(code: &mut Vec<Instruction>, text: &[u8]) -> Result<(), AllocError>
+fn put_match(code: &mut Vec<Instruction>, base: u8, text: &[u8]) -> Result<(), AllocError>
     requires { length text.now ≤ 255 }
-    ensures { OnOk result (code.new.items ≡ code.old.items ++ instructions (definitions.match_code text.now 0)) }
+    ensures { OnOk result (code.new.items ≡ code.old.items ++ instructions (definitions.match_code base text.now 0)) }
 {
     for k in 0..text.len() {
-        put_byte(code, k, text[k], text.len() - k - 1)?;
+        put_byte(code, base, k, text[k], text.len() - k - 1)?;
     }
     code.push(set(TRUTH, 1))?;
     Ok(())
 }
 
-/// Whether the value begins with a text, and its length compared with the text's fails a test.
-#[tactic(auto, using(crate::proofs::Lengths::value_test_is))]
-pub fn put_value_test(code: &mut Vec<Instruction>, text: &Text, how: Test) -> Result<(), AllocError>
+/// Whether the part at an address begins with a text, and its length compared with the text's fails a test.
+#[tactic(auto, using(crate::proofs::Lengths::match_test_is))]
+pub fn put_match_test(
+    code: &mut Vec<Instruction>,
+    base: u8,
+    long: u8,
+    text: &Text,
+    how: Test,
+) -> Result<(), AllocError>
     requires { FitsText text.now }
-    ensures { OnOk result (code.new.items ≡ code.old.items ++ instructions (definitions.value_test_code text.now how)) }
+    ensures { OnOk result (code.new.items ≡ code.old.items ++ instructions (definitions.match_test_code base long text.now how)) }
 {
     let size = text.bytes.len();
     code.extend_from_slice(&[
         set(TRUTH, 0),
-        skip_if(how, LENGTH, size as i32, (2 * size + 1) as i16),
+        skip_if(how, long, size as i32, (2 * size + 1) as i16),
     ])?;
-    put_match(code, &text.bytes)
+    put_match(code, base, &text.bytes)
+}
+
+/// The same of the value.
+pub fn put_value_test(code: &mut Vec<Instruction>, text: &Text, how: Test) -> Result<(), AllocError>
+    requires { FitsText text.now }
+    ensures { OnOk result (code.new.items ≡ code.old.items ++ instructions (definitions.value_test_code text.now how)) }
+{
+    put_match_test(code, VALUE, LENGTH, text, how)
 }
 
 /// Whether 0, the length of a null value's bytes, compares otherwise with a number that an instruction can hold.
