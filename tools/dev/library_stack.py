@@ -1,6 +1,6 @@
 #!/usr/bin/env python3
 """Measures the stack that each function of the C library takes (library_stack.c): at most 20,000 bytes, and klog_compile at
-most 200,000, or the status is 1.
+most 27,000, or the status is 1.
 
     tools/dev/library_stack.py FOLDER        FOLDER is what tools/build_library.sh made; CC is the C compiler, cc if not set
 
@@ -83,6 +83,9 @@ def rules():
     yield b"drop when " + b"not " * 97 + b"key is null"
     yield b"drop when " + b" and ".join([test] * 33)
     yield b"drop when " + b" or ".join([b'u64be(value, 1) >= 7'] * 33)
+    yield b"drop when " + b" and ".join([b"key is null"] * 98)
+    yield b"drop when " + b" or ".join([b"key is null"] * 98)
+    yield b"drop when " + b" or ".join([b"key is null"] * 99)
     yield b"output 4 with value[4..12] = \"" + b"*" * 255 + b'" when ' + test + b"\n" + b"output hash(key) % 64\n" * 1023
     yield b"output 0\n" * 1025
     yield b"drop when " + b"(" * 40
