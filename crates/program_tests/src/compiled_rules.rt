@@ -305,7 +305,7 @@ static SLOTS: &str = "\
 83 | drop when value has \"a\" | rule 83: E9 Slots
 # a text of the key in the first rule, and in another one
 1 | drop when key begins \"ab\" | 14
-2 | drop when key begins \"ab\" | 34
+2 | drop when key begins \"ab\" | 31
 # bytes of the value one by one, where the highest comes first
 1 | drop when u32le(value, 4) < 1000 | 13
 1 | drop when u32be(value, 4) < 1000 | 22
