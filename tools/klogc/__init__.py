@@ -3,8 +3,8 @@
 The parts, each with one purpose:
     compiler    finds clang and runs it; what BPF lacks becomes calls of runtime.h
     program     the object's code as blocks, own functions followed into each call;  loops  among the blocks;  liveness  what they read
-    values      what is known of a number;  terms  sums of unknown numbers;  bounds  of such sums and the record's lengths;
-                state  at one place of the code;  meeting  where two ways meet
+    values      what is known of a number;  terms  sums of unknown numbers;  halves  numbers that are the low bits of others;
+                bounds  of sums and the record's lengths;  state  at one place of the code;  meeting  where two ways meet
     lowering    runs the blocks with what is known, a copy of a loop's blocks for each round, and writes code
                 (writer, numbers, jumps, memory, calls, library are its layers; code has the instructions that it writes)
     registers   gives the variables of that code registers or places on the stack (places, choice, ways are its layers), without what

@@ -1,21 +1,15 @@
 """What is known of numbers by what they are sums of: bounds of the record's lengths, of sums, and of how far sums are from a length."""
-from typing import Callable, NamedTuple
+from typing import Callable
 
 from .code import Variable
+from .halves import FAR, HALF, Halves, Held, narrowed
 from .terms import LENGTH_TERMS, MOST_TERMS, has_length, plus, region_of, sum_in, turned
-from .values import LIMIT, M64, Value, added, const, made, number, small, summed, window
+from .values import LIMIT, Value, added, const, number, small, summed, window
 
-FAR, HALF = 1 << 62, 1 << 63
 NEGATED_LENGTHS = {turned(terms): region for region, terms in LENGTH_TERMS.items()}
 
 
-class Held(NamedTuple):
-    """What a store left on the stack: how many bytes, and what is known of them, if anything is."""
-    size: int
-    value: Value | None
-
-
-class Bounds:
+class Bounds(Halves):
     """The part of State that knows of sums; its fields are told there."""
     __slots__ = ()
     variables: dict[Variable, Value]
@@ -179,12 +173,12 @@ class Bounds:
         slack = self.slack(v, region)
         if slack is None or v.terms is None:
             return slack
-        parts, without = {term for term, _ in v.terms}, turned(v.terms)
+        parts, without, count = dict(v.terms), turned(v.terms), len(v.terms)
         for (terms, which), k in self.facts.items():
-            if which != region or terms[0][0] not in parts and (len(terms) == 1 or not touches(parts, terms)):
+            if which != region or cancelled(parts, terms) < count:
                 continue
             rest = plus(terms, without)
-            if not rest or len(rest) > len(terms):
+            if not rest:
                 continue
             ranges = self.whole_ranges() if ranges is None else ranges
             known = ranges.get(rest) or self.floor_range(rest)
@@ -205,7 +199,7 @@ class Bounds:
             return False
         if lo == hi and v.c == 0 and v.terms in self.remainders:
             self.divide_length(*self.remainders[v.terms], lo)
-        if v.terms in self.masks and v.c == 0 <= lo and not self._narrow_masked(v, lo, hi):
+        if v.terms in self.masks and v.c == 0 <= lo and not self.narrow_masked(v, lo, hi):
             return False
         self._raise_least(v, lo)
         self._narrow_difference(v, lo, hi)
@@ -216,14 +210,9 @@ class Bounds:
         for at, (size, x) in self.memory.items():
             if x is not None and x.terms == v.terms:
                 self.memory[at] = Held(size, narrowed(x, v, lo, hi))
+        if self.masks:
+            self.narrow_cut(v, lo, hi)
         return self._settle_lengths()
-
-    def _narrow_masked(self, v, lo, hi):
-        """What it says of a number that its `and` or its `or` with a mask is from lo to hi."""
-        of, name, mask = self.masks[v.terms]
-        if name == "and":
-            return self.narrow(of, lo, lo | M64 & ~mask if lo == hi else M64)
-        return self.narrow(of, lo & ~mask if lo == hi else 0, hi)
 
     def divide_length(self, region, c, divisor, remainder):
         """A length and a constant have a remainder by a divisor."""
@@ -319,12 +308,13 @@ class Bounds:
         return self._settle_lengths()
 
 
-def touches(parts, terms):
-    """Whether one of the parts is in a sum."""
-    for term, _ in terms:
+def cancelled(parts, terms):
+    """By how many terms the difference of a sum and of the sum of some parts is shorter than both."""
+    count = 0
+    for term, factor in terms:
         if term in parts:
-            return True
-    return False
+            count += 2 if parts[term] == factor else 1
+    return count
 
 
 def shares(parts, terms):
@@ -342,18 +332,3 @@ def negated(v):
 def is_whole(v):
     """Whether a number and its terms' sum are the same modulo 2^64 and as whole numbers."""
     return 0 <= v.lo and v.hi < HALF and -FAR < small(v.c) < FAR
-
-
-def narrowed(x, v, lo, hi):
-    """x, which differs from v by a constant, where v is from lo to hi."""
-    low, high = lo + x.c - v.c, hi + x.c - v.c
-    if 0 <= low <= x.lo < x.hi <= high < HALF and x.hi <= x.mask < 1 << x.hi.bit_length():
-        return x
-    both = [(max(low + k, x.lo), min(high + k, x.hi)) for k in (0, 1 << 64, -1 << 64) if low + k <= x.hi and x.lo <= high + k]
-    if not both:
-        return x
-    a, b = min(a for a, _ in both), max(b for _, b in both)
-    if a == b:
-        # It keeps its terms, which others have.
-        return made((x.region, a, a, a, x.terms, x.c)) if a >= 0 else const(a, x.region)
-    return number(a, b, x.mask, x.terms, x.c, x.region)

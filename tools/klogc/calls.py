@@ -129,6 +129,8 @@ class Calls(Memory):
         if unsigned(n)[1] > self.room_size:
             self.may_reject(ROOM)
         to = self.room_at + made * self.room_size
+        if unsigned(n)[1] == 0:
+            return Copied(to, 0)
         done = self.label() if n.lo <= 0 else None
         if done:
             self.emit(Test("eq", 64, part.length.written, 0, done, False))

@@ -17,6 +17,8 @@ HERE = os.path.dirname(os.path.abspath(__file__))
 INCLUDES = (os.path.join(os.path.dirname(os.path.dirname(HERE)), "include"), os.path.join(HERE, "include"))
 OLDEST, NEWEST = 14, 30
 OPTIONS = ("-target", "bpf", "-mcpu=v3", "-g", "-nostdlibinc", "-fno-stack-protector")
+# BPF has no vectors. A level after these would undo them.
+NO_VECTORS = ("-fno-vectorize", "-fno-slp-vectorize")
 LEVEL = "-O2"
 SECONDS = 600
 
@@ -211,7 +213,7 @@ class Compiler:
 
     def __init__(self, name=None, level=LEVEL, more=()):
         self.name = name or found_clang()
-        self.words = [self.name, *OPTIONS, level, "-w", *more]
+        self.words = [self.name, *OPTIONS, level, *NO_VECTORS, "-w", *more]
 
     def run(self, *words):
         try:

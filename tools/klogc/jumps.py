@@ -36,6 +36,14 @@ class Comparison(NamedTuple):
             name = self.plain()
         return Comparison(name, width, v, w)
 
+    def whole(self, s: State):
+        """A signed test of 32 bits as one of 64, of the numbers that these are the low halves of, where they are known."""
+        if self.width == 32 and self.is_signed():
+            v, w = s.signed_whole(self.v, 32), s.signed_whole(self.w, 32)
+            if v is not None and w is not None:
+                return Comparison(self.name, 64, v, w).simpler()
+        return self
+
     def interval(self, v):
         """A number's interval as the test reads it."""
         if self.width == 64:
@@ -85,7 +93,7 @@ class Jumps(Numbers):
             self.fail("32 bits of addresses are compared: compare the places in the record, or the whole addresses")
         test = Comparison(name, width, x.value, y.value).simpler()
         tests = self.length_tests(s, test, x, y)
-        ends = self.ends(s, test)
+        ends = self.ends(s, test.whole(s))
         if not ends:
             self.emit(Goto(OUTSIDE))
         elif len(ends) == 1:
@@ -116,7 +124,7 @@ class Jumps(Numbers):
             if test.width == 64:
                 if not (t.narrow(test.v, *p) and t.narrow(test.w, *q)):
                     continue
-                learn(t, holds, test)
+                learn(t, holds, test._replace(v=t.resolved(test.v), w=t.resolved(test.w)))
                 if not side and test.name == "set" and test.v.length_region() and test.w.is_const() and test.w.lo & test.w.lo + 1 == 0:
                     t.divide_length(test.v.length_region(), small(test.v.c), test.w.lo + 1, 0)
             elif not (narrow_low(t, test, test.v, p) and narrow_low(t, test, test.w, q)):

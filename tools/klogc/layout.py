@@ -63,17 +63,22 @@ def without_jumps_on(items):
     return out[::-1]
 
 
+def shortened(items):
+    """Items without what no way leads to, and without jumps that lead on. Whoever leaves out more of them later takes these: a jump
+    that was led on no longer needs the one that it led to."""
+    return without_jumps_on(reached(items))
+
+
 def laid_out(items):
-    kept = without_jumps_on(reached(items))
     places, slot = {}, 0
-    for item in kept:
+    for item in items:
         if item.kind == "label":
             places[item.label] = slot
         else:
             slot += 2 if item.kind == "wide" else 1
     if slot > SLOTS:
         raise TooLong
-    data, code = bytearray(), [item for item in kept if item.kind != "label"]
+    data, code = bytearray(), [item for item in items if item.kind != "label"]
     for item in code:
         data += encoded(item, len(data) // 8, places)
     return Image(bytes(data), code)

@@ -99,6 +99,10 @@ class Library(Calls):
         n = count.value
         if n.region is not None or unsigned(n)[1] > MOST_ROOM and not n.length_region():
             return False
+        if n.is_const() and n.lo == 0:
+            self.clobber(s)
+            self.define(s, 0, n, 0)
+            return True
         is_few = n.is_const() and n.lo <= MOST_COMPARED
         if is_few and all(self.is_plain(s, piece.value, n.lo) or n.lo in WORDS and piece.value.region in LENGTH for piece in pieces):
             self.compare_words(s, n.lo)

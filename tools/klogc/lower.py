@@ -5,7 +5,7 @@ import program_files
 import second_machine as machine
 
 from .code import TRAPS
-from .layout import SLOTS, filled, laid_out, view
+from .layout import SLOTS, filled, laid_out, shortened, view
 from .lowering import Lowering
 from .program import STACK, Program, Refused
 from .registers import Allocator
@@ -45,37 +45,56 @@ def table_of(code):
 
 def lower(program: Program, rounds=ROUNDS, strict=True, slots=SLOTS) -> Lowered:
     """Lowers a program. Loops are copied round by round until their end is proved; where that has no end, or takes more slots
-    than an image has, the loops with the most rounds get `rounds`, and then fewer. A program that is refused is tried with more copies."""
+    than an image has, the loops with the most rounds get `rounds`, and then fewer. A program that is refused is tried with more copies,
+    and then with loops as one with those in them, but with few slots alone."""
     try:
         return lowered(program, rounds, strict, slots, False)
     except Refused:
-        return lowered(program, rounds, strict, slots, True)
+        try:
+            return lowered(program, rounds, strict, slots, True)
+        except Refused as refusal:
+            made = flattened(program, strict, slots)
+            if made is None:
+                raise refusal
+            return made
+
+
+def has_nested_loops(program):
+    return any(len(heads) > 1 for heads in program.order().heads.values())
+
+
+def flattened(program, strict, slots):
+    """Lowers a program with loops as one with those in them, or gives None where that is refused or takes more than a few slots."""
+    if not has_nested_loops(program):
+        return None
+    try:
+        lowering, image = tried(program, Settings({}, min(FEW_SLOTS, slots), strict, True, False), Learned())
+    except Refused:
+        return None
+    return report(lowering, image) if image else None
 
 
 def lowered(program, rounds, strict, slots, fine) -> Lowered:
     """Lowers a program, perhaps with the ways apart on which a variable is another text, or -1.
 
     Of a loop in a loop the copies are many, and few where both are one; but then less is known of where each of them is. So both
-    forms are tried, with few slots first. Where the first is refused the second gets few slots alone, and no ways apart."""
+    forms are tried, with few slots first, and without ways apart."""
     learned = {False: Learned()}
-    if not fine and any(len(heads) > 1 for heads in program.order().heads.values()):
+    if not fine and has_nested_loops(program):
         learned[True] = Learned()
-    refused, stopped = None, {}
+    stopped = {}
     for most in sorted({min(FEW_SLOTS, slots), slots}):
         for flat in sorted(learned):
             try:
                 lowering, image = tried(program, Settings({}, most, strict, flat, fine), learned[flat], stopped.get(flat))
-            except Refused as refusal:
-                if most > FEW_SLOTS and not flat:
+            except Refused:
+                if not flat:
                     raise
-                refused = refused or (None if flat else refusal)
                 del learned[flat]
                 continue
             if image:
                 return report(lowering, image)
             stopped[flat] = lowering
-        if refused:
-            raise refused
     return limited(program, rounds, stopped[False])
 
 
@@ -150,6 +169,7 @@ def finished(lowering, blocks):
         raise Refused(f"the functions' variables, and what has no register, take more than the stack's {STACK} bytes", program.line(program.entry))
     data = constant_bytes(lowering)
     for _ in range(MOST_FILLS):
+        items = shortened(items)
         image = laid_out(filled(data) + items)
         seen = view(image.data, LARGEST_TABLE)
         if seen.fault:

@@ -3,7 +3,7 @@ which its variables are addresses, with what is known there, and writes the code
 import collections
 import heapq
 
-from .code import ENTRY, LOOP, Entry, Goto, Move, register
+from .code import ENTRY, LOOP, Entry, Goto, Move, Variable, register
 from .library import Library
 from .program import Block, Place
 from .state import State
@@ -90,9 +90,9 @@ class Lowering(Library):
         if place not in self.read:
             self.read[place] = [register(r) if isinstance(r, int) else register(r[1], self.copies[r[0]]) for r in self.live[place]]
         s.keep(self.read[place] + [name for name in s.variables if name[0] == "slot"])
-        copy = self.copy_of(place, rounds, s.variables, fine_kind if self.settings.fine else kind)
+        copy = self.copy_of(place, rounds, s, fine_kind if self.settings.fine else kind)
         if self.settings.fine and copy not in self.waiting and self.copies_of[place, rounds] >= MOST_COPIES:
-            copy = self.copy_of(place, rounds, s.variables, kind)
+            copy = self.copy_of(place, rounds, s, kind)
         if copy in self.waiting:
             self.waiting[copy] = self.waiting[copy].join(s)
             return copy
@@ -105,11 +105,14 @@ class Lowering(Library):
         heapq.heappush(self.queue, (key, self.arrived, copy))
         return copy
 
-    def copy_of(self, place, rounds, variables, kind_of):
+    def copy_of(self, place, rounds, s: State, kind_of):
+        variables = s.variables
         if kind_of is kind:
             # Most variables have none, and are not asked one by one.
             variables = {name: v for name, v in variables.items() if v.region is not None or v.terms == KEY_LENGTH}
         kinds = [(name, str(what)) for name, v in variables.items() if (what := kind_of(v)) is not None]
+        if s.words:
+            kinds += [(Variable("slot", at), region) for at, region in s.words.items() if region in LENGTH_TERMS]
         found = place, rounds, tuple(sorted(kinds))
         if found not in self.made_copies:
             self.made_copies[found] = Copy(*found)

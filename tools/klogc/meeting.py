@@ -1,7 +1,7 @@
 """What is known where two ways of the code meet."""
 import itertools
 
-from .bounds import Held
+from .halves import Held, joined_cuts
 from .terms import LENGTH_TERMS, has_length, parts_of, plus, sum_in, turned
 from .values import LIMIT, M64, MIXED, added, joined, made, small, summed
 
@@ -22,7 +22,7 @@ class Meeting:
         both.facts, both.floors = least_of(one.facts, other.facts), least_of(one.floors, other.floors)
         both.shifts, both.quotients, both.multiples = same(one.shifts, other.shifts), same(one.quotients, other.quotients), same(one.multiples, other.multiples)
         both.complements, both.products = same(one.complements, other.complements), same(one.products, other.products)
-        both.scales, both.remainders, both.masks = same(one.scales, other.scales), same(one.remainders, other.remainders), same(one.masks, other.masks)
+        both.scales, both.remainders, both.masks = same(one.scales, other.scales), same(one.remainders, other.remainders), joined_cuts(one.masks, other.masks)
         new = self._variables()
         if new:
             self._parts(new)
@@ -123,11 +123,17 @@ class Meeting:
             if sums == NO_SUMS:
                 continue
             for region in LIMIT if x.region is None and y.region is None else (x.region or y.region,):
-                if any((terms, region) in side.facts for terms, (side, _) in zip(sums, sides)):
+                told = [(terms, region) in side.facts for terms, (side, _) in zip(sums, sides)]
+                if any(told):
                     ranges = ranges or [side.whole_ranges() for side in (one, other)]
-                    slacks = [side.whole_slack(added(side.variables[name].in_region(None), side.variables[second].in_region(None)), region, known)
+                    slacks = [self._slack(side, added(side.variables[name].in_region(None), side.variables[second].in_region(None)), region, None if all(told) else known)
                               for side, known in zip((one, other), ranges)]
                     self.both.keep_fact(summed(x, y, 1), region, slacks, small((x.c + y.c) & M64))
+
+    @staticmethod
+    def _slack(side, v, region, ranges):
+        """How far a sum is from the record's end: by itself where that is known on both ways, which says it sooner."""
+        return side.slack(v, region) if ranges is None else side.whole_slack(v, region, ranges)
 
     def _order(self, new):
         """Of numbers of which one is not the same on both ways: how much at least the one is more than the other."""

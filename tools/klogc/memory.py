@@ -1,8 +1,9 @@
 """Lowers loads and stores: an address is a place in a known region, and the base is added just before each access."""
 from .code import BASE, FRAME, LENGTH, OUTSIDE, ROOM, Alu, Bound, Call, Goto, Load, Move, Point, PointAt, Store, Test, Variable
+from .halves import Held
 from .jumps import Jumps
 from .program import STACK
-from .state import Held, State
+from .state import State
 from .values import M64, MIXED, Value, changed, const, low32, number, signed, small, unsigned
 from .writer import Given, region_text
 

@@ -1,9 +1,10 @@
 """Lowers moves and operations on numbers and addresses."""
 from .code import LENGTH, OUTSIDE, Alu, Change, Move, Test
+from .halves import is_low
 from .program import INTRINSICS
 from .state import State
 from .terms import region_of
-from .values import LIMIT, M32, M64, MIXED, added, changed, const, low32, number, quotient32, result, signed, small, unsigned
+from .values import LIMIT, M32, M64, MIXED, added, changed, const, low32, number, quotient32, result, signed, signed32, small, unsigned
 from .writer import Given, Writer
 
 MANY_TERMS = 4
@@ -19,6 +20,7 @@ class Numbers(Writer):
             cut = low32(v)
             if cut != v:
                 self.emit(Move(self.name(dst), a, 32))
+                s.note_cut(cut, v, M32)
                 self.set(s, dst, cut)
                 return
         self.define(s, dst, v, a)
@@ -35,6 +37,8 @@ class Numbers(Writer):
         v, a = self.operand(s, ("reg", src))
         self.number(v)
         known = changed(change, v)
+        if change[0] == "movsx" and change[1] == 64:
+            known = s.signed_whole(v, change[2]) or known
         if known.is_const():
             self.define(s, dst, known, known.lo)
         elif change[0] == "movsx" and known == v:
@@ -142,6 +146,8 @@ class Numbers(Writer):
 def related(s: State, name, width, operands, known):
     """What is known of a result by how its operands came about."""
     v, w = operands
+    if width == 32 and name in ("add", "sub") and known.lo == 0 and known.hi == M32:
+        s.note_cut(known, added(s.whole(v), const(signed32(w)[0]) if w.is_const() else s.whole(w), 1 if name == "add" else -1), M32)
     if width == 32 and (low32(v) != v or low32(w) != w):
         return known
     if width == 32 and name == "sub" and known.lo == 0:
@@ -172,6 +178,8 @@ def related(s: State, name, width, operands, known):
         s.learn(known, w, True)
     if name in ("and", "or") and w.is_const() and v.length_region() and known.c == 0 and known.terms not in (None, v.terms):
         s.note("masks", known.terms, (v, name, w.lo))
+    elif name == "and" and w.is_const() and is_low(w.lo) and known.terms != v.terms:
+        s.note_cut(known, s.whole(v, w.lo), w.lo)
     divisor = w.lo + (name == "and") if w.is_const() and name in ("and", "mod") else 0
     if v.length_region() and v.lo >= 0 and known.terms is not None and known.c == 0 and divisor and (name == "mod" or divisor & w.lo == 0):
         s.note("remainders", known.terms, (v.length_region(), small(v.c), divisor))
@@ -216,12 +224,18 @@ def same(v, w):
 
 
 def shifted_back(s: State, name, v, count, known):
-    """What is known of a shift's result: where a number was shifted to the left without a loss, it is the number again when it is
-    shifted back, as compilers do to cut a number to 32 bits."""
-    if name == "lsh" and 0 <= v.lo and v.hi << count < 1 << 63:
+    """What is known of a shift's result: where a number was shifted to the left and is shifted back, as compilers do to cut a number
+    and to extend its sign, it is the number again if nothing of it was lost, or its low bits."""
+    mask = M64 >> count
+    if name == "lsh":
         s.note("shifts", known.terms, (count, v))
     elif name in ("rsh", "arsh") and v.c == 0 and s.shifts.get(v.terms, (None,))[0] == count:
-        return s.current(s.shifts[v.terms][1])
+        of = s.settled(s.shifts[v.terms][1])
+        if 0 <= of.lo and of.hi <= mask >> (name == "arsh"):
+            return of
+        if name == "arsh":
+            return s.signed_whole(of, 64 - count) or known
+        s.note_cut(known, s.whole(of, mask), mask)
     return known
 
 

@@ -1,6 +1,7 @@
 """What is known at one place of the code: of each variable, of the stack's bytes, and of the record's lengths."""
-from .bounds import Bounds, Held
+from .bounds import Bounds
 from .code import Variable
+from .halves import Held
 from .meeting import Meeting
 from .terms import LENGTH_TERMS, plus, turned
 from .values import LIMIT, M64, MIXED, Value, number

@@ -1,13 +1,18 @@
 #!/usr/bin/env python3
 """Compares random C programs with what klogc makes of them, on random records.
 
-    tools/klogc/tests/compare.py [--seed SEED] [--programs N] [--records N] [--level=-O1|-O2|-Os] [--compiler CLANG] [--option=OPTION] [--log FILE]
+    tools/klogc/tests/compare.py [--seed SEED] [--programs N] [--records N] [--jobs N] [--level=-O1|-O2|-Os] [--compiler CLANG]
+                                 [--option=OPTION] [--log FILE]
 
 The object's code and the image run by klogc's interpreter (meaning.py), and with one record in ten the image runs on the machine of
 tools/dev too. Where the object's code does what it must not, the image may do anything but trap; a program that is refused for it
-is tried again with codes 252. The status is 1 where an outcome differs."""
+is tried again with codes 252. The last line counts the programs and the runs, which are a program on a record each: those with the same
+outcome, with a code of klogc's own instead of it, and with a trap of the object's code; those that differ; and the programs that are
+refused. The status is 1 where an outcome differs."""
 import argparse
 import collections
+import concurrent.futures
+import functools
 import json
 import os
 import random
@@ -27,7 +32,7 @@ import second_machine
 from second_broker import Record as Spelled
 
 OUTPUTS = 4
-PROGRAMS_IN_ONE = 25
+PROGRAMS_IN_ONE = 100
 LEVELS = ("-O1", "-O2", "-Os")
 LOOP, ROOM = 251, 250
 MACHINE_EVERY = 10
@@ -132,21 +137,34 @@ def compared(data, name, seed, count):
     return tally, None
 
 
-def compare(compiler, seed, count, number_of_records, folder):
+def object_of(compiler, seed, count):
+    """The object of so many programs of a seed."""
+    with tempfile.TemporaryDirectory(prefix="klogc-") as folder:
+        path = os.path.join(folder, f"seed{seed}.c")
+        with open(path, "w", encoding="utf-8") as it:
+            it.write(source(seed, count))
+        return compiler.object_of(path)
+
+
+def compare(compiler, seed, count, number_of_records):
     """Compares so many programs of a seed. The results are counts, and what is wrong as (program, text)."""
-    path, tally, wrong = os.path.join(folder, f"seed{seed}.c"), collections.Counter(), []
-    with open(path, "w", encoding="utf-8") as it:
-        it.write(source(seed, count))
-    data = compiler.object_of(path)
+    tally, wrong = collections.Counter(), []
+    try:
+        data = object_of(compiler, seed, count)
+    except Refused as fault:
+        print(f"seed {seed}: refused: {fault}", flush=True)
+        return collections.Counter({"refused": count, "programs": count}), []
     for k in range(count):
+        tally["programs"] += 1
         try:
             found, text = compared(data, f"program{k}", f"{seed} {k}", number_of_records)
         except Refused as fault:
             tally["refused"] += 1
-            print(f"seed {seed}, program{k}: refused: {fault}")
+            print(f"seed {seed}, program{k}: refused: {fault}", flush=True)
             continue
+        except Exception as fault:  # an error of the pass itself
+            found, text = collections.Counter(), f"{type(fault).__name__} {fault}"
         tally += found
-        tally["programs"] += 1
         if text:
             wrong.append((k, text))
     return tally, wrong
@@ -170,6 +188,24 @@ def write_log(name, seed, found):
             it.write(json.dumps([seed, found]) + "\n")
 
 
+def one_seed(given, count, seed):
+    """Compares the programs of one seed, and prints what is wrong. The result are counts."""
+    sys.setrecursionlimit(20000)
+    level = given.level or LEVELS[seed % len(LEVELS)]
+    found, wrong = compare(Compiler(given.compiler, level, given.option), seed, count, given.records)
+    for k, text in wrong:
+        print(f"seed {seed}, program{k} at {level}: {text}", flush=True)
+    found["different"] = len(wrong)
+    return found
+
+
+def last_line(tally):
+    """The counts in words."""
+    runs = sum(tally[word] for word in ("same", "trap", "different", str(LOOP), str(ROOM)))
+    return (f"{tally['programs']} programs, {runs} runs: {tally['same']} same, {tally[str(LOOP)] + tally[str(ROOM)]} with code 250 or 251, {tally['trap']} traps, "
+            f"{tally['different']} different; {tally['refused']} programs refused, {tally['with 252']} built with code 252, {tally['instructions']} instructions")
+
+
 def main():
     words = argparse.ArgumentParser(description="Compares random C programs with what klogc makes of them.")
     words.add_argument("--seed", type=int, default=1)
@@ -179,21 +215,18 @@ def main():
     words.add_argument("--compiler")
     words.add_argument("--log", metavar="FILE", help="a file that gets the counts of each seed; a later call with it goes on after the last of them")
     words.add_argument("--option", action="append", default=["-ffunction-sections", "-g0"], help="one more of the compiler's options, as --option=-mcpu=v4")
+    words.add_argument("--jobs", type=int, default=1, help="how many seeds are compared at a time")
     given = words.parse_args()
-    sys.setrecursionlimit(20000)
-    with tempfile.TemporaryDirectory(prefix="klogc-") as folder:
-        first, tally = logged(given.log, given.seed)
-        for seed in range(first, given.seed + -(-given.programs // PROGRAMS_IN_ONE)):
-            level = given.level or LEVELS[seed % len(LEVELS)]
-            found, wrong = compare(Compiler(given.compiler, level, given.option), seed, PROGRAMS_IN_ONE, given.records, folder)
-            for k, text in wrong:
-                print(f"seed {seed}, program{k} at {level}: {text}", flush=True)
-            found["wrong"] = len(wrong)
+    first, tally = logged(given.log, given.seed)
+    # A few programs are of each level too.
+    count = min(PROGRAMS_IN_ONE, -(-given.programs // len(LEVELS)))
+    seeds = range(first, given.seed + -(-given.programs // count))
+    with concurrent.futures.ProcessPoolExecutor(given.jobs) as pool:
+        for seed, found in zip(seeds, pool.map(functools.partial(one_seed, given, count), seeds)):
             tally += found
             write_log(given.log, seed, found)
-    bad = tally.pop("wrong", 0)
-    print(", ".join(f"{n} {word}" for word, n in sorted(tally.items())) + f"; {bad} wrong")
-    sys.exit(int(bad > 0))
+    print(last_line(tally))
+    sys.exit(int(tally["different"] > 0))
 
 
 if __name__ == "__main__":

@@ -8,17 +8,15 @@ is none that the verifier accepts, or the pass ends by an error of its own. The 
 import argparse
 import os
 import sys
-import tempfile
 from typing import Callable, NamedTuple
 
 if __name__ == "__main__":
     sys.path[0] = os.path.dirname(os.path.dirname(os.path.dirname(os.path.realpath(__file__))))
 
-from klogc import bounds, calls, choice, code, jumps, layout, library, memory, numbers, places, program, state, values, ways
+from klogc import bounds, calls, choice, code, halves, jumps, layout, library, memory, numbers, places, program, state, values, ways
 from klogc.compiler import Compiler
 from klogc.program import Refused
-from klogc.tests.compare import PROGRAMS_IN_ONE, compared
-from klogc.tests.programs import source
+from klogc.tests.compare import PROGRAMS_IN_ONE, compared, object_of
 
 
 class Fault(NamedTuple):
@@ -70,6 +68,8 @@ FAULTS = [
     Fault("of two pieces the first words alone are compared", library.Library, "test_word", lambda old: lambda self, s, end, is_first: old(self, s, end, True) if is_first else None),
     Fault("an order is turned", bounds.Bounds, "least_difference", lambda old: lambda self, v, w, least=None, parts=None: old(self, w, v, None, parts)),
     Fault("a length is odd that is even", bounds.Bounds, "divide_length", lambda old: lambda self, region, c, divisor, remainder: old(self, region, c, divisor, remainder + 1)),
+    Fault("a number is what it is cut from", halves, "is_one_part", lambda old: lambda of, mask: True),
+    Fault("low bits say one less of the whole", halves.Halves, "narrow_masked", lambda old: lambda self, v, lo, hi: old(self, v, lo, max(lo, hi - 1))),
     Fault("a test is left out where it is read", layout, "view", lambda old: lambda data, table: old(data, table)._replace(never=some_test(data))),
 ]
 
@@ -142,12 +142,8 @@ def main():
     words.add_argument("words", nargs="*", metavar="WORD")
     given, missed, objects = words.parse_args(), 0, []
     sys.setrecursionlimit(20000)
-    with tempfile.TemporaryDirectory(prefix="klogc-") as folder:
-        for seed in range(given.seed, given.seed + -(-given.programs // PROGRAMS_IN_ONE)):
-            path = os.path.join(folder, f"seed{seed}.c")
-            with open(path, "w", encoding="utf-8") as it:
-                it.write(source(seed, PROGRAMS_IN_ONE))
-            objects.append(Compiler(more=("-ffunction-sections",)).object_of(path))
+    for seed in range(given.seed, given.seed + -(-given.programs // PROGRAMS_IN_ONE)):
+        objects.append(object_of(Compiler(more=("-ffunction-sections",)), seed, PROGRAMS_IN_ONE))
     chosen = [fault for fault in FAULTS if not given.words or any(word in fault.name for word in given.words)]
     for fault in chosen:
         with Planted(fault):
