@@ -54,6 +54,9 @@ ACCEPTED = [
      [(Record(b"k", b"abcd"), (97 * 2 + 98) * 5 + 99 * 2 + 100 + 2), (Record(b"k", b""), 2), (Record(b"k", b"abc"), 1)]),
     ("month", "\tstatic const u16 days[4] = {31, 28, 310, 30};\n\tint month = key_length ? key[0] - '0' : -1;\n\tif (month < 1 || month > 4)\n\t\treturn 1;\n\treturn days[month - 1];",
      [(Record(b"3", b""), 310), (Record(b"0", b""), 1), (Record(b"", b""), 1)]),
+    ("letters", "\tstatic const u8 worth[26] = {1, 3, 3, 2, 1, 4};\n\tu8 c = key_length ? key[0] : 0;\n\tif (c >= 'a' && c <= 'z')\n\t\tc -= 32;\n\tif (c < 'A' || c > 'Z')\n\t\treturn 50;\n\treturn worth[c - 'A'] + 9;",
+     [(Record(b"F", b""), 13), (Record(b"b", b""), 12), (Record(b"z", b""), 9), (Record(b"@", b""), 50), (Record(b"[", b""), 50), (Record(b"\xc1", b""), 50)]),
+    ("none_compared", "\tu64 n = key_length & 0;\n\tif (value_length < 4)\n\t\treturn 1;\n\treturn memcmp(value + (value[0] & 3), key, n) == 0 ? 6 : 7;", [(Record(b"ab", b"abcd"), 6), (Record(b"", b""), 1)]),
     ("sum_at_end", "\tu64 star = 0;\n\tif (value_length > 9)\n\t\treturn 1;\n\tfor (u64 i = 1; i < value_length; i++)\n\t\tif (value[i] == '*') {\n\t\t\tstar = i;\n\t\t\tbreak;\n\t\t}\n\tif (star == 0 || star + 3 != value_length)"
      "\n\t\treturn 2;\n\treturn value[star + 1] * 3 + value[star + 2];", [(Record(b"k", b"$a*bc"), 98 * 3 + 99), (Record(b"k", b"$a*b"), 2), (Record(b"k", b"*"), 2)]),
     ("escapes", "\tu64 all = 0, i = 0;\n\tif (value_length > 24)\n\t\treturn 1;\n\twhile (i < value_length) {\n\t\tif (value[i] == '%') {\n\t\t\tif (i + 2 >= value_length)\n\t\t\t\treturn 2;\n\t\t\tall += value[i + 1] * value[i + 2];\n\t\t\ti += 3;"
