@@ -10,9 +10,9 @@ ghost use Rattle.machine_spec.specs.declared.outcome.Outcome.{Outcome};
 ghost use Rattle.verifier_spec.specs.StandsFor.{IsWithinLimits};
 
 use bytes::Bytes;
-use exec::{Block, EmittedList, Ending};
+use exec::{BLOCK, Block, EmittedList, Ending};
 use kafka_record::RecordRef;
-use machine_spec::{IsaFault, Outcome, Place, Table};
+use machine_spec::{Helper, Instruction, IsaFault, Outcome, Place, Table};
 use notes::Verified;
 use std::alloc::{AllocError, Global};
 use std::marker::Model;
@@ -27,6 +27,8 @@ pub struct Program {
     verified: Verified,
     // Whether a block of records takes less time abreast.
     pays: bool,
+    // Whether it may add headers.
+    adds: bool,
 }
 
 impl Model for Program {
@@ -39,6 +41,19 @@ impl Model for Program {
     ghost invariant = { λ p. IsCodeOf p.image p.verified.code };
 }
 
+/// Whether a program calls the helper that adds headers.
+fn adds_headers(verified: &Verified) -> bool {
+    let code = verified.code();
+    for number in 0..code.len() {
+        if let Instruction::Call(named) = code.instr(number) {
+            if let Some(Helper::AddHeader) = Helper::with_number(named) {
+                return true;
+            }
+        }
+    }
+    false
+}
+
 impl Program {
     /// The program of an image that decodes to code with an annotation, by a helper table. It fails
     /// with the program's first refusal, or with a memory fault where memory runs out.
@@ -49,10 +64,12 @@ impl Program {
         match image.clone() {
             Ok(image) => {
                 let pays = exec::pays(&verified);
+                let adds = adds_headers(&verified);
                 Ok(Program {
                     image,
                     verified,
                     pays,
+                    adds,
                 })
             }
             Err(_) => Err(LoadFault::Isa(IsaFault::Memory)),
@@ -115,5 +132,13 @@ impl Program {
     /// choice between two ways to the same outcomes.
     pub fn pays(&self) -> bool {
         self.pays
+    }
+
+    /// How many records of a batch are best run before their rows are written: as many as a block has, or half as many
+    /// where each row may have a list of added headers.
+    pub fn at_once(&self) -> usize
+        ensures { 1 ≤ result }
+    {
+        if self.adds { BLOCK / 2 } else { BLOCK }
     }
 }

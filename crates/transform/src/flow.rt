@@ -239,6 +239,16 @@ impl<W: Write> Transform<W> {
     }
 }
 
+// The records that a program is run on after the first `done` of so many, before their rows are written.
+fn next_part(program: &Program, done: usize, records: usize) -> Part
+    requires { done < records }
+    ensures first { result.first ≡ done }
+    ensures some { 1 ≤ result.count }
+    ensures part { IsPartOf records result }
+{
+    Part::next(done, records.min(done.saturating_add(program.at_once())))
+}
+
 // Runs a program on the records of a batch, one part after the other, and puts the rows of each into the output
 // partitions before the next one is run.
 fn push_parts<W: Write>(
@@ -255,7 +265,7 @@ fn push_parts<W: Write>(
     let mut rows = ItemRefs::none(stream.alloc(), origin.outputs, total)?;
     let mut done = 0;
     while done < total {
-        let part = Part::next(done, total);
+        let part = next_part(program, done, total);
         stream.push_part(program, &origin, batch, part, &mut rows)?;
         done += part.count;
     }

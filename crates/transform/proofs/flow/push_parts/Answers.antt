@@ -8,7 +8,11 @@ use Rattle.transform.proofs.flow.push_parts.Goals as goal
 
 pub none-requires : goal.none-requires
 none-requires g c =
-    omega (arith, ap (λ (o : Origin). o.outputs) c.origin-origin.ensures.origin, c.origin-origin.ensures.ranges.some_output)
+    omega (
+      arith,
+      ap (λ (o : Origin). o.outputs) c.origin-origin.ensures.origin,
+      c.origin-origin.ensures.ranges.some_output,
+    )
 
 pub loop-done-init : goal.loop-done-init
 loop-done-init g c = record {
@@ -21,9 +25,10 @@ loop-done-init g c = record {
 pub push_part-requires-clause-at : goal.push_part-requires-clause-at
 push_part-requires-clause-at g c =
     let begun = c.loop-done.invariant.begun in
-    subst (λ (o : Origin). IsAt o c.next-part.result.first c.loop-done.stream) (sym c.origin-origin.ensures.origin) (record {
+    subst (λ (o : Origin). IsAt o c.next_part-part.result.first c.loop-done.stream) (sym c.origin-origin.ensures.origin)
+    (record {
       input = begun.input;
-      offset = omega (arith, begun.offset, c.next-part.ensures.first);
+      offset = omega (arith, begun.offset, c.next_part-part.ensures.first);
       outputs = begun.count;
     })
 
@@ -42,7 +47,7 @@ push_part-requires-clause-fits g c = c.len-total.ensures.fits
 
 pub push_part-requires-clause-part : goal.push_part-requires-clause-part
 push_part-requires-clause-part g c =
-    subst (λ (n : ℕ). IsPartOf n c.next-part.result) c.len-total.ensures.count c.next-part.ensures.part
+    subst (λ (n : ℕ). IsPartOf n c.next_part-part.result) c.len-total.ensures.count c.next_part-part.ensures.part
 
 pub push_part-requires-clause-rows : goal.push_part-requires-clause-rows
 push_part-requires-clause-rows g c =
@@ -51,15 +56,15 @@ push_part-requires-clause-rows g c =
 pub loop-done-preserved : goal.loop-done-preserved
 loop-done-preserved g c =
     let program = c.args.program.now in let batch = c.args.batch.now in let old = c.args.stream.now in
-    let mid = c.loop-done.stream in let new = c.push_part.new.self in let part = c.next-part.result in
+    let mid = c.loop-done.stream in let new = c.push_part.new.self in let part = c.next_part-part.result in
     let done = c.loop-done.done in let inv = c.loop-done.invariant in
     let le : done + part.count ≤ length batch.records =
-    omega (arith, c.next-part.ensures.first, c.next-part.ensures.part.within, c.len-total.ensures.count) in
+    omega (arith, c.next_part-part.ensures.first, c.next_part-part.ensures.part.within, c.len-total.ensures.count) in
     let puts : PutsPart program (origin_of old) batch part mid (Ok tt) new =
     subst (λ (o : Origin). PutsPart program o batch part mid (Ok tt) new) c.origin-origin.ensures.origin
     c.in_ok-push_part.ensures.pushes.0 in record {
       few = le;
-      begun = begun_more program batch old done part mid le c.next-part.ensures.first inv.begun new puts;
+      begun = begun_more program batch old done part mid le c.next_part-part.ensures.first inv.begun new puts;
       counted = omega (arith, c.in_ok-push_part.ensures.counted, inv.counted);
       rows = c.in_ok-push_part.ensures.rows ∙ ap (λ (o : Origin). o.outputs) c.origin-origin.ensures.origin;
     }
@@ -67,17 +72,17 @@ loop-done-preserved g c =
 pub returns-in_err-push_part-clause-pushes : goal.returns-in_err-push_part-clause-pushes
 returns-in_err-push_part-clause-pushes g c =
     let program = c.args.program.now in let batch = c.args.batch.now in let old = c.args.stream.now in
-    let mid = c.loop-done.stream in let new = c.push_part.new.self in let part = c.next-part.result in
+    let mid = c.loop-done.stream in let new = c.push_part.new.self in let part = c.next_part-part.result in
     let done = c.loop-done.done in let inv = c.loop-done.invariant in let why = c.in_err-push_part.field-0.0 in
     let le : done + part.count ≤ length batch.records =
-    omega (arith, c.next-part.ensures.first, c.next-part.ensures.part.within, c.len-total.ensures.count) in
+    omega (arith, c.next_part-part.ensures.first, c.next_part-part.ensures.part.within, c.len-total.ensures.count) in
     let lt : done < length batch.records = omega (arith, c.loop-done-test.true, c.len-total.ensures.count) in
     let pushes : PushesPart program (origin_of old) batch part mid (Err why) new =
     subst (λ (o : Origin). PushesPart program o batch part mid (Err why) new) c.origin-origin.ensures.origin
     c.in_err-push_part.ensures.pushes in
     let is : c.from_residual-in_err-push_part.result ≡ Err why = search rules in
     subst (λ (r : Result (Unit {0}) TransformFault). Pushes program batch old r new) (sym is)
-    (begun_faults program batch old c.len-total.ensures.fits done part mid new why lt le c.next-part.ensures.first
+    (begun_faults program batch old c.len-total.ensures.fits done part mid new why lt le c.next_part-part.ensures.first
     inv.begun pushes)
 
 pub returns-clause-pushes : goal.returns-clause-pushes
