@@ -163,10 +163,10 @@ uint32_t klog_load(const uint8_t *bytes, size_t length, uint32_t table, klog_han
 
 /* Compiles the rules of a text of `length` bytes, and writes the program file that `klog rule` makes of them to the front of
  * a buffer of `room` bytes, of which the rest is as it was, and its length to `*written`. klog_load accepts it by
- * KLOG_TABLE_OWN, and the program means what the rules say (docs/guide/rules.md). Of a refused text the number is 501 to
- * 507 or 509, and `*spot` is then where; else `*spot` is as it was. KLOG_ROOM: the buffer is too short; `*written` is
- * what it needs. KLOG_COMPILED bytes are enough for each text. KLOG_NULL: `written` or `spot` is null, or `text` or `buffer`
- * is null and its length is not 0. KLOG_MEMORY. */
+ * KLOG_TABLE_OWN, and the program means what the rules say (docs/guide/rules.md). The text may have any bytes, as that of
+ * `klog rule`. Of a refused text the number is 501 to 507 or 509, and `*spot` is then where; else `*spot` is as it was.
+ * KLOG_ROOM: the buffer is too short; `*written` is what it needs. KLOG_COMPILED bytes are enough for each text. KLOG_NULL:
+ * `written` or `spot` is null, or `text` or `buffer` is null and its length is not 0. KLOG_MEMORY. */
 uint32_t klog_compile(const uint8_t *text, size_t length, uint8_t *buffer, size_t room, size_t *written, klog_spot *spot);
 
 /* Writes the text of a fault as `klog` prints it ("I3 Register slot 0", "V7 RecordBounds at 2") to the front of a

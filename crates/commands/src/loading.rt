@@ -10,13 +10,12 @@ ghost use Rattle.commands.specs.Given as definitions;
 ghost use Rattle.commands.specs.Given.{GivesBytes, GivesText, GivesNamed};
 ghost use Rattle.commands.specs.Images.{first_bytes};
 
-use crate::asm::read_text;
 use crate::explaining::refused_text;
 use crate::files::Files;
 use crate::given::{Ungiven, given_of};
 use crate::halts::{Halt, ProgramFault};
 use crate::image::{Refused, read_image, refusal_of};
-use crate::reading::Unread;
+use crate::reading::{Unread, read_file};
 use crate::rule_files::file_of_rules;
 use log_item::Program;
 use machine_spec::Table;
@@ -72,10 +71,10 @@ fn read_bytes<F: Files>(
 }
 
 /// The program of a text's rules.
-fn rules_given(alloc: Global, text: &str, named: Option<Table>) -> Result<GivenProgram, Halt>
+fn rules_given(alloc: Global, text: &[u8], named: Option<Table>) -> Result<GivenProgram, Halt>
     ensures { IsGivenTo (GivesText named text.now) result }
 {
-    match file_of_rules(alloc, text.as_bytes()) {
+    match file_of_rules(alloc, text) {
         Ok(bytes) => program_given(alloc, bytes, named),
         Err(TextFault::Memory) => Err(Halt::Memory),
         Err(fault) => Err(Halt::Program(ProgramFault::Rules(fault))),
@@ -93,8 +92,8 @@ fn read_rules<F: Files>(
     ensures given { (bytes : List ℕ) → F.bytes files.old name.now ≡ Some bytes → IsGivenTo (GivesText named bytes) result }
     ensures kept { KeepsAll (F.bytes files.old) (F.bytes files.new) }
 {
-    match read_text(alloc, files, name) {
-        Ok(text) => rules_given(alloc, text.as_str(), named),
+    match read_file(alloc, files, name) {
+        Ok(text) => rules_given(alloc, &text, named),
         Err(unread) => Err(halt_of_unread(unread)),
     }
 }

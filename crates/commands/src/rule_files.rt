@@ -6,8 +6,9 @@ ghost use Rattle.commands.specs.declared.status.Status.TheVariants as exit;
 ghost use Rattle.commands.specs.Compiled.{IsFileOf, WritesProgram, status_of_text, WritesFile};
 ghost use Rattle.commands.specs.Files.{KeepsAll, KeepsBut};
 
-use crate::asm::{read_text, write_image};
+use crate::asm::write_image;
 use crate::files::Files;
+use crate::reading::read_file;
 use crate::status::Status;
 use crate::telling::{rules_text, tell_text, tell_unread};
 use program_file::write;
@@ -75,7 +76,7 @@ fn compile_rules<F: Files, E: Write>(
     alloc: Global,
     files: &mut F,
     stderr: &mut E,
-    source: &str,
+    source: &[u8],
     text: &str,
     name: &str,
 ) -> Status
@@ -84,7 +85,7 @@ fn compile_rules<F: Files, E: Write>(
     ensures failed { result ≢ exit.Done → KeepsAll (F.bytes files.old) (F.bytes files.new) }
     ensures apart { F.tells ≡ true → result ≡ exit.Done → F.leads text.now ≢ F.leads name.now }
 {
-    match file_of_rules(alloc, source.as_bytes()) {
+    match file_of_rules(alloc, source) {
         Ok(bytes) => put_file(alloc, files, stderr, text, name, &bytes),
         Err(fault) => tell_fault(alloc, stderr, fault),
     }
@@ -107,8 +108,8 @@ pub fn compile_file<F: Files, E: Write>(
     ensures failed { result ≢ exit.Done → KeepsAll (F.bytes files.old) (F.bytes files.new) }
     ensures apart { F.tells ≡ true → result ≡ exit.Done → F.leads text.now ≢ F.leads name.now }
 {
-    match read_text(alloc, files, text) {
-        Ok(source) => compile_rules(alloc, files, stderr, source.as_str(), text, name),
+    match read_file(alloc, files, text) {
+        Ok(source) => compile_rules(alloc, files, stderr, &source, text, name),
         Err(unread) => tell_unread(alloc, stderr, text, unread),
     }
 }
