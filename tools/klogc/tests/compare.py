@@ -12,7 +12,6 @@ refused. The status is 1 where an outcome differs."""
 import argparse
 import collections
 import concurrent.futures
-import functools
 import json
 import os
 import random
@@ -170,16 +169,17 @@ def compare(compiler, seed, count, number_of_records):
     return tally, wrong
 
 
-def logged(name, seed):
-    """The seed with which to go on, and the counts of those before it that a log has."""
-    tally: collections.Counter = collections.Counter()
+def logged(name, seeds):
+    """Those of the seeds that a log has, and the counts of their programs."""
+    done, tally = set(), collections.Counter()
     if name and os.path.exists(name):
         with open(name, encoding="utf-8") as it:
             for line in it:
-                number, found = json.loads(line)
-                if number >= seed:
-                    seed, tally = number + 1, tally + collections.Counter(found)
-    return seed, tally
+                seed, found = json.loads(line)
+                if seed in seeds:
+                    done.add(seed)
+                    tally += collections.Counter(found)
+    return done, tally
 
 
 def write_log(name, seed, found):
@@ -213,18 +213,19 @@ def main():
     words.add_argument("--records", type=int, default=50)
     words.add_argument("--level", choices=LEVELS, help="the level of all programs; if not given, it goes round with the seed")
     words.add_argument("--compiler")
-    words.add_argument("--log", metavar="FILE", help="a file that gets the counts of each seed; a later call with it goes on after the last of them")
+    words.add_argument("--log", metavar="FILE", help="a file that gets the counts of each seed; a later call with it takes those that it lacks")
     words.add_argument("--option", action="append", default=["-ffunction-sections", "-g0"], help="one more of the compiler's options, as --option=-mcpu=v4")
     words.add_argument("--jobs", type=int, default=1, help="how many seeds are compared at a time")
     given = words.parse_args()
-    first, tally = logged(given.log, given.seed)
     # A few programs are of each level too.
     count = min(PROGRAMS_IN_ONE, -(-given.programs // len(LEVELS)))
-    seeds = range(first, given.seed + -(-given.programs // count))
+    seeds = range(given.seed, given.seed + -(-given.programs // count))
+    done, tally = logged(given.log, seeds)
     with concurrent.futures.ProcessPoolExecutor(given.jobs) as pool:
-        for seed, found in zip(seeds, pool.map(functools.partial(one_seed, given, count), seeds)):
-            tally += found
-            write_log(given.log, seed, found)
+        waiting = {pool.submit(one_seed, given, count, seed): seed for seed in seeds if seed not in done}
+        for each in concurrent.futures.as_completed(waiting):
+            tally += each.result()
+            write_log(given.log, waiting[each], each.result())
     print(last_line(tally))
     sys.exit(int(tally["different"] > 0))
 
