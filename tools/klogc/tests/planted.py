@@ -16,7 +16,9 @@ if __name__ == "__main__":
 from klogc import bounds, calls, choice, code, halves, jumps, layout, library, memory, numbers, places, program, state, values, ways
 from klogc.compiler import Compiler
 from klogc.program import Refused
-from klogc.tests.compare import PROGRAMS_IN_ONE, compared, object_of
+from klogc.tests.compare import compared, object_of
+
+PROGRAMS_IN_ONE = 25
 
 
 class Fault(NamedTuple):
@@ -68,7 +70,7 @@ FAULTS = [
     Fault("of two pieces the first words alone are compared", library.Library, "test_word", lambda old: lambda self, s, end, is_first: old(self, s, end, True) if is_first else None),
     Fault("an order is turned", bounds.Bounds, "least_difference", lambda old: lambda self, v, w, least=None, parts=None: old(self, w, v, None, parts)),
     Fault("a length is odd that is even", bounds.Bounds, "divide_length", lambda old: lambda self, region, c, divisor, remainder: old(self, region, c, divisor, remainder + 1)),
-    Fault("a number is what it is cut from", halves, "is_one_part", lambda old: lambda of, mask: True),
+    Fault("low bits are read as the whole", halves.Halves, "signed_whole", lambda old: lambda self, v, bits: old(self, v, bits) or self.whole(v, (1 << bits) - 1)),
     Fault("low bits say one less of the whole", halves.Halves, "narrow_masked", lambda old: lambda self, v, lo, hi: old(self, v, lo, max(lo, hi - 1))),
     Fault("a test is left out where it is read", layout, "view", lambda old: lambda data, table: old(data, table)._replace(never=some_test(data))),
 ]

@@ -76,11 +76,12 @@ TYPES = ("u8", "u16", "u32", "int", "short", "long", "signed char", "u64")
 class Maker:
     def __init__(self, seed, name):
         self.r, self.name, self.depth, self.count = random.Random(seed), name, 0, 0
+        self.cuts = random.Random(f"{seed} cuts")
         self.length, self.deepest = self.r.choice(SIZES)
 
     def program(self):
         inline = self.r.choice(("__attribute__((noinline)) ", "inline ", ""))
-        return FUNCTIONS % {"name": self.name, "inline": inline} + BODY % {"name": self.name, "begin": self.r.choice(BEGINS), "statements": self.statements(self.length), "end": self.r.choice(ENDS)}
+        return FUNCTIONS % {"name": self.name, "inline": inline} + BODY % {"name": self.name, "begin": self.r.choice(BEGINS), "statements": f"\t{self.cut()}\n{self.statements(self.length)}", "end": self.r.choice(ENDS)}
 
     # ---- expressions
 
@@ -224,6 +225,14 @@ class Maker:
         n, v = self.index("n"), self.variable()
         kind = self.r.choice(("u64", "u32", "int", "long"))
         return f"{{ {kind} {n} = {self.narrow()}; if ({n} {self.r.choice(('<', '>', '<=', '>=', '==', '!='))} {self.r.choice(SMALL)}) {v} += {n} + 1; else {v} ^= {n}; }}"
+
+    def cut(self):
+        """A difference that is cut to fewer bits is tested, or what it is of is."""
+        r, (first, least) = self.cuts, self.cuts.choice(((65, 26), (48, 10), (97, 3), (250, 20), (3, 9)))
+        v, w, n, m, kind = r.choice(VARIABLES), r.choice(VARIABLES[:12]), self.index("n"), self.index("n"), r.choice(("u8", "u32", "int", "short", "u64"))
+        start, other = r.choice((f"(u8){v}", f"{v} & 31", f"{v} & 127", "(value_length ? value[0] : 70)", f"buf[{v} & 31]")), r.choice((4, 17, first + 2, first + least))
+        test, again = r.choice((f"(u8){m} < {least}", f"{m} < {least}", f"{m} >= 0 && {m} < {least}", f"{n} < {other}")), r.choice((f"{n} < {other}", f"(u8){m} > {least}", f"{m} < 0", f"{m} == -3"))
+        return (f"{{ {r.choice(('u8', 'int', 'u32'))} {n} = {start}; {kind} {m} = {n} - {first}; if ({test}) {w} += table[{m} & 15] + (u64){m} * 3 + {n}; else if ({again}) {w} ^= ((u64){m} >> 3) + {n}; else {w} += {m}; }}")
 
     def ordered(self):
         """Which of two numbers is the less, and by how much, is tested again."""
