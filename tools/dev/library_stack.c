@@ -12,7 +12,7 @@
 
 /* What each call may take, and one that compiles rules, whose conditions are read and compiled level by level. Most is what
  * a thread has here. */
-enum { ALLOWED = 20000, ALLOWED_COMPILE = 27000, MOST = 1 << 20, PAINT = 0x5a, LONGEST = 8 << 20 };
+enum { ALLOWED = 20000, ALLOWED_COMPILE = 40000, MOST = 1 << 20, PAINT = 0x5a, LONGEST = 8 << 20 };
 
 static uint8_t *stack;
 static uint8_t *batches_at;

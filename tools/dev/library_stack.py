@@ -1,6 +1,6 @@
 #!/usr/bin/env python3
 """Measures the stack that each function of the C library takes (library_stack.c): at most 20,000 bytes, and klog_compile at
-most 27,000, or the status is 1.
+most 40,000, or the status is 1.
 
     tools/dev/library_stack.py FOLDER        FOLDER is what tools/build_library.sh made; CC is the C compiler, cc if not set
 
