@@ -1,17 +1,19 @@
 #!/usr/bin/env python3
 """Runs the examples of rules files, and prints a table of them in Markdown. Not part of the build.
 
-    tools/dev/rules_table.py RUNNER FOLDER
+    tools/dev/rules_table.py RUNNER FOLDER [KLOG]
 
 NAME.rules begins with comments: what the rules do, and examples as those of transforms in C (tools/klogc/examples.py). Each
 outcome is compared with what rules_meaning.py says, and with the example, whose headers are not compared. RUNNER is that of
-compare_rules.py. The instructions of a transform in C of the same name are those of docs/guide/transforms.md.
+compare_rules.py. With KLOG, a built program, there are the instructions of a transform of `examples/c` with the same name,
+as klogc builds it; that needs clang.
 """
 import glob
 import os
 import re
 import subprocess
 import sys
+import tempfile
 
 import compare_rules
 import rules_meaning
@@ -24,11 +26,16 @@ from klogc.examples import record_of, wanted_of  # noqa: E402
 HEAD = "| rules | what they do | rules | instructions | in C |\n|---|---|---|---|---|"
 
 
-def counts_in_c():
-    """How many instructions each transform of the documents has in C."""
-    with open(f"{TOP}/docs/guide/transforms.md", encoding="utf-8") as file:
-        rows = re.findall(r"^\| (\w+) \|.*\| accepted \| (\d+) \|$", file.read(), re.M)
-    return dict(rows)
+def count_in_c(name, klog):
+    """How many instructions klogc makes of the transform in C with that name, if there is one."""
+    sources = sorted(glob.glob(f"{TOP}/examples/c/**/{name}.c", recursive=True))
+    if klog is None or not sources:
+        return ""
+    with tempfile.TemporaryDirectory() as room:
+        words = [f"{TOP}/tools/klogc/klogc", "build", sources[0], "-o", f"{room}/program", "--klog", os.path.abspath(klog)]
+        ran = subprocess.run(words, capture_output=True, text=True, check=False)
+    count = re.search(r": (\d+) instructions", ran.stdout)
+    return count[1] if count else "refused"
 
 
 def said_in(text):
@@ -47,7 +54,7 @@ def plain(outcome):
     return outcome if isinstance(outcome, int) else [tuple(it[:3]) for it in outcome]
 
 
-def row_of(runner, path, counts):
+def row_of(runner, path, klog):
     """A row of the table, and what is wrong with the outcomes."""
     name = os.path.basename(path).removesuffix(".rules")
     with open(path, encoding="utf-8") as file:
@@ -67,14 +74,14 @@ def row_of(runner, path, counts):
     wrong += [f"{name}: {line}: {got}, not {want}" for line, got, want in zip(lines[1:], answers, wants) if got != want]
     if not first.startswith("ok ") or len(answers) != len(wants):
         wrong.append(f"{name}: {first}")
-    return f"| {name} | {what} | {len(rules)} | {first.removeprefix('ok ')} | {counts.get(name, '')} |", wrong
+    return f"| {name} | {what} | {len(rules)} | {first.removeprefix('ok ')} | {count_in_c(name, klog)} |", wrong
 
 
-def main(runner, folder):
-    counts, faults, files = counts_in_c(), [], 0
+def main(runner, folder, klog=None):
+    faults, files = [], 0
     print(HEAD)
     for path in sorted(glob.glob(f"{folder}/*.rules")):
-        row, wrong = row_of(runner, path, counts)
+        row, wrong = row_of(runner, path, klog)
         print(row)
         faults += wrong
         files += 1
@@ -83,6 +90,6 @@ def main(runner, folder):
 
 
 if __name__ == "__main__":
-    if len(sys.argv) != 3:
+    if len(sys.argv) not in (3, 4):
         sys.exit(__doc__)
     sys.exit(main(*sys.argv[1:]))
