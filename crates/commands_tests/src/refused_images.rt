@@ -28,7 +28,7 @@ static IMAGES: [(&str, u8, bool); 10] = [
     ("none", 3, true),
     ("all.rules", 0, false),
     ("faulty.rules", 1, true),
-    ("binary.rules", 3, true),
+    ("binary.rules", 0, false),
     ("none.rules", 3, true),
 ];
 
