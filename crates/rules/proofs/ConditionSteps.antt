@@ -4,7 +4,7 @@ use Rattle.std.specs.Prelude.{codes}
 use Rattle.rules.specs.declared.{level.Level.Level, fault.LineFault.LineFault}
 use Rattle.rules.specs.declared.level.Level.TheVariants as level
 use Rattle.rules.specs.declared.fault.LineFault.TheVariants as fault
-use Rattle.rules.specs.Lines.{Formula, Both, Either}
+use Rattle.rules.specs.Formulas.{Formula, Both, Either}
 use Rattle.rules.specs.Scanning.{◌>>=◌, skipped, after_word, after_sign}
 use Rattle.rules.specs.Reading.{joined, enclosed_at, single_at, negated_at, one_at, condition_at}
 

@@ -4,7 +4,7 @@ use Rattle.std.proofs.Common.{None, Ok, refl, sym, ap, ◌∙◌, arith}
 use Rattle.std.specs.Prelude.{codes}
 use Rattle.rules.specs.declared.{level.Level.Level, rule.Test.Test}
 use Rattle.rules.specs.declared.level.Level.TheVariants as level
-use Rattle.rules.specs.Lines.{Formula, Single, Negated, Both, Either}
+use Rattle.rules.specs.Formulas.{Formula, Single, Negated, Both, Either}
 use Rattle.rules.specs.Limits.{IsText, FitsTest, steps, FitsSteps}
 use Rattle.rules.specs.Scanning.{word_at, behind_word, after_word, after_sign}
 use Rattle.rules.specs.Reading.{condition_at}

@@ -4,6 +4,7 @@ pub mod Searches
 pub mod Quotes
 pub mod Appends
 pub mod LinesRead
+pub mod Nodes
 pub mod ConditionSteps
 pub mod ReadLimits
 pub mod WordsAgain

@@ -18,7 +18,8 @@ use Rattle.rules.specs.declared.rule.Test.TheVariants as test
 use Rattle.rules.specs.declared.rule.Output.TheVariants as output
 use Rattle.rules.specs.declared.rule.Action.TheVariants as action
 use Rattle.rules.specs.declared.level.Level.TheVariants as level
-use Rattle.rules.specs.Lines.{Formula, Single, Negated, Both, Either, Line}
+use Rattle.rules.specs.Formulas.{Formula, Single, Negated, Both, Either}
+use Rattle.rules.specs.Lines.{Line}
 use Rattle.rules.specs.Limits.{IsText, FitsPart, FitsTerm, FitsTest, HasFitting, FitsEnd, FitsOutput, FitsAdded}
 use Rattle.rules.specs.Limits.{FitsAction, FitsWhen, FitsLine}
 use Rattle.rules.specs.Reading.{is_line_feed}

@@ -10,7 +10,8 @@ use Rattle.rules.specs.declared.fault.RuleFault.{RuleFault}
 use Rattle.rules.specs.declared.limits.TheConstants.{MAX_RULES, MAX_STEPS, MAX_PLACE, MAX_OUTPUT}
 use Rattle.rules.specs.declared.fault.LineFault.TheVariants as fault
 use Rattle.rules.specs.declared.level.Level.TheVariants as level
-use Rattle.rules.specs.Lines.{Formula, Single, Negated, Both, Either, Line}
+use Rattle.rules.specs.Formulas.{Formula, Single, Negated, Both, Either}
+use Rattle.rules.specs.Lines.{Line}
 use Rattle.rules.specs.Scanning.{Read, ◌>>=◌, on_there, after_quote, char_at, onto_text, skipped, is_end}
 use Rattle.rules.specs.Scanning.{word_at, after_word, after_sign, word_expected, sign_expected, is_number, number_at}
 use Rattle.rules.specs.Scanning.{number_in, quoted, text_at}

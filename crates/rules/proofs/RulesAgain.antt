@@ -10,7 +10,8 @@ use Rattle.rules.specs.declared.rule.Output.TheVariants as output
 use Rattle.rules.specs.declared.rule.Action.TheVariants as action
 use Rattle.rules.specs.declared.level.Level.TheVariants as level
 use Rattle.rules.specs.declared.limits.TheConstants.{MAX_RULES, MAX_STEPS}
-use Rattle.rules.specs.Lines.{Formula, Line}
+use Rattle.rules.specs.Formulas.{Formula}
+use Rattle.rules.specs.Lines.{Line}
 use Rattle.rules.specs.Limits.{IsText, FitsWhen, FitsLine, AreRules}
 use Rattle.rules.specs.Scanning.{skipped, is_end, word_at, behind_word, after_word}
 use Rattle.rules.specs.Reading.{when_at, rule_of, rule_in, is_line_feed}

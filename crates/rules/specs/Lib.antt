@@ -1,4 +1,5 @@
 pub mod Numbers
+pub mod Formulas
 pub mod Lines
 pub mod Meaning
 pub mod Outcomes
@@ -6,5 +7,6 @@ pub mod Faults
 pub mod Scanning
 pub mod Reading
 pub mod Steps
+pub mod Nodes
 pub mod Limits
 pub mod Writing

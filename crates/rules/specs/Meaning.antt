@@ -9,7 +9,8 @@ use Rattle.machine_spec.specs.declared.outcome.Place.{Place}
 use Rattle.rules.specs.declared.{rule.Part.Part, rule.Layout.Layout, rule.Term.Term, rule.Comparison.Comparison}
 use Rattle.rules.specs.declared.rule.Test.{Test}
 use Rattle.rules.specs.Numbers.{digits_number}
-use Rattle.rules.specs.Lines.{Formula, Single, Negated, Both, Either, Line}
+use Rattle.rules.specs.Formulas.{Formula, Single, Negated, Both, Either}
+use Rattle.rules.specs.Lines.{Line}
 use Rattle.rules.specs.declared.rule.Part.TheVariants as part
 use Rattle.rules.specs.declared.rule.Layout.TheVariants.{Byte, U16Be, U32Be, U64Be, U16Le, U32Le, U64Le}
 use Rattle.rules.specs.declared.rule.Term.TheVariants as term

@@ -18,7 +18,8 @@ use Rattle.rules.specs.declared.rule.Action.TheVariants as action
 use Rattle.rules.specs.declared.level.Level.TheVariants as level
 use Rattle.rules.specs.declared.fault.LineFault.TheVariants as fault
 use Rattle.rules.specs.declared.fault.RuleFault.TheVariants as rule_fault
-use Rattle.rules.specs.Lines.{Formula, Single, Negated, Both, Either, Line}
+use Rattle.rules.specs.Formulas.{Formula, Single, Negated, Both, Either}
+use Rattle.rules.specs.Lines.{Line}
 use Rattle.rules.specs.Faults.{spot_at, at_line}
 use Rattle.rules.specs.Scanning.{Read, ◌>>=◌, on_there, skipped, is_end, unexpected, word_at, after_word, after_sign}
 use Rattle.rules.specs.Scanning.{behind_word, word_expected, sign_expected, is_number, number_in, text_at}

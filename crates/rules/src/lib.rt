@@ -10,6 +10,7 @@
 //! ```
 #![tactic(auto)]
 
+mod condition;
 mod digits;
 mod fault;
 mod laws;
@@ -25,12 +26,13 @@ mod terms;
 mod truth;
 mod writing;
 
+pub use condition::{Condition, Node};
 pub use fault::{RuleFault, Spot};
 pub use laws::{rules_are_limited, rules_are_read_again};
 pub use limits::{MAX_RULES, MAX_STEPS};
 pub use reading::parse;
 pub use rule::{
-    Action, AddedHeader, Comparison, Condition, Cut, Layout, Output, Part, Rule, Term, Test, Text,
+    Action, AddedHeader, Comparison, Cut, Layout, Output, Part, Rule, Term, Test, Text,
 };
 pub use truth::{chosen, holds};
 pub use writing::write;

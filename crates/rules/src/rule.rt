@@ -1,5 +1,6 @@
 //! What rules are.
 
+use crate::condition::Condition;
 use std::marker::Model;
 
 /// A text of a rule, of any bytes. A clause sees them.
@@ -97,19 +98,6 @@ pub enum Test {
     Has(Part, Text),
     /// `TERM = NUMBER` and its kin.
     Compare(Term, Comparison, u64),
-}
-
-/// When a rule takes a record.
-#[derive(Drop)]
-pub enum Condition {
-    /// One test, in memory of its own: so conditions are small.
-    Test(Box<Test>),
-    /// `not CONDITION`.
-    Not(Box<Condition>),
-    /// `CONDITION and CONDITION`.
-    And(Box<Condition>, Box<Condition>),
-    /// `CONDITION or CONDITION`.
-    Or(Box<Condition>, Box<Condition>),
 }
 
 /// Bytes of a part: `[FROM..TO]`, or `[FROM..]` up to its end.

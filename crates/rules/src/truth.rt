@@ -1,11 +1,13 @@
 //! Which conditions hold of a record, and which rule takes it.
 
-ghost use Rattle.std.specs.Prelude.{◌≡◌, nat_eq, option_map};
+ghost use Rattle.std.specs.Prelude.{◌≡◌, ◌<◌, length, nat_eq, option_map};
+ghost use Rattle.rules.specs.Formulas.{BeginWhole, first_in, formulas_of, behind_first};
 ghost use Rattle.rules.specs.Lines.{formula_of, line_of, lines_of};
 ghost use Rattle.rules.specs.Meaning as definitions;
 
+use crate::condition::{Condition, Node};
 use crate::parts::{is_absent, is_null, part_bytes};
-use crate::rule::{Comparison, Condition, Part, Rule, Test, Text};
+use crate::rule::{Comparison, Part, Rule, Test, Text};
 use crate::terms::term_value;
 use kafka_record::RecordRef;
 use machine_spec::Place;
@@ -105,16 +107,38 @@ fn test_holds(test: &Test, given: &RecordRef, place: &Place) -> bool
     }
 }
 
+/// Whether the condition that nodes begin with holds of a record, and the nodes behind it.
+fn first_holds<'a>(nodes: &'a [Node], given: &RecordRef, place: &Place) -> (bool, &'a [Node])
+    requires { BeginWhole nodes.now }
+    ensures truth { result.0 ≡ definitions.holds (first_in nodes.now) given.now place.now }
+    ensures rest { formulas_of result.1.now ≡ behind_first nodes.now }
+    ensures shorter { length result.1.now < length nodes.now }
+{
+    match nodes {
+        [] => unreachable!(),
+        [Node::Test(test), rest @ ..] => (test_holds(test, given, place), rest),
+        [Node::Not, rest @ ..] => {
+            let (inner, rest) = first_holds(rest, given, place);
+            (!inner, rest)
+        }
+        [Node::And, rest @ ..] => {
+            let (one, next) = first_holds(rest, given, place);
+            let (other, rest) = first_holds(next, given, place);
+            (one && other, rest)
+        }
+        [Node::Or, rest @ ..] => {
+            let (one, next) = first_holds(rest, given, place);
+            let (other, rest) = first_holds(next, given, place);
+            (one || other, rest)
+        }
+    }
+}
+
 /// Whether a condition holds of a record.
 pub fn holds(condition: &Condition, given: &RecordRef, place: &Place) -> bool
     ensures { result ≡ definitions.holds (formula_of condition.now) given.now place.now }
 {
-    match condition {
-        Condition::Test(test) => test_holds(test, given, place),
-        Condition::Not(inner) => !holds(inner, given, place),
-        Condition::And(one, other) => holds(one, given, place) && holds(other, given, place),
-        Condition::Or(one, other) => holds(one, given, place) || holds(other, given, place),
-    }
+    first_holds(&condition.nodes, given, place).0
 }
 
 /// Whether a rule takes a record: its condition holds, or it has none.

@@ -9,8 +9,8 @@ ghost use Rattle.std.specs.Prelude.{◌≡◌, ◌++◌, ◌∷◌, [], option_m
 ghost use Rattle.rules.specs.Lines.{formula_of, line_of, lines_of};
 ghost use Rattle.rules.specs.Writing as definitions;
 
-use crate::level::Level;
-use crate::rule::{Condition, Rule};
+use crate::condition::Condition;
+use crate::rule::Rule;
 use crate::writing::actions::push_action;
 use crate::writing::conditions::push_condition;
 use std::alloc::{AllocError, Global};
@@ -25,7 +25,7 @@ fn push_when(
     match condition {
         Some(condition) => {
             out.extend_from_slice(b" when ")?;
-            push_condition(alloc, out, Level::Any, condition)
+            push_condition(alloc, out, condition)
         }
         None => Ok(()),
     }

@@ -29,7 +29,7 @@ use Rattle.rules.specs.declared.{rule.Part.Part, rule.Term.Term, rule.Comparison
 use Rattle.rules.specs.declared.{rule.Test.Test as Tests}
 use Rattle.rules.specs.declared.rule.Comparison.TheVariants as comparison
 use Rattle.rules.specs.declared.rule.Test.TheVariants as test
-use Rattle.rules.specs.Lines.{Formula, Single, Negated, Both, Either}
+use Rattle.rules.specs.Formulas.{Formula, Single, Negated, Both, Either}
 use Rattle.rules.specs.Meaning.{is_null, is_absent, term_value, compares, compares_if, test_holds, holds}
 use Rattle.rules.specs.Limits.{IsText, FitsPart, FitsTerm, FitsTest, HasFitting}
 use Rattle.rules_compiler.specs.Code.{Code, Plain, Unless}

@@ -16,7 +16,6 @@ use Rattle.machine_spec.specs.Values.{Number, is_taken}
 use Rattle.machine_spec.specs.Machine.{Input, State, state_after, goes_to, bytes_of}
 use Rattle.verifier_spec.specs.StandsFor.{IsInput}
 use Rattle.rules.specs.declared.rule.Part.TheVariants as part
-use Rattle.rules.specs.declared.rule.Layout.TheVariants.{Byte}
 use Rattle.rules.specs.Meaning.{test_equals, test_begins}
 use Rattle.rules.specs.Limits.{IsText}
 use Rattle.rules_compiler.specs.Code.{Plain, Unless}
@@ -34,7 +33,7 @@ use Rattle.machine_spec.specs.Values.{Address, operand}
 use Rattle.machine_spec.specs.Machine.{length_of}
 use Rattle.rules.specs.declared.{rule.Test.Test as Tests}
 use Rattle.rules.specs.declared.rule.Test.TheVariants as test
-use Rattle.rules.specs.Lines.{Formula, Single, Negated, Both, Either}
+use Rattle.rules.specs.Formulas.{Formula, Single, Negated, Both, Either}
 use Rattle.rules.specs.Meaning.{test_holds, holds}
 use Rattle.rules.specs.Limits.{FitsTest, HasFitting}
 use Rattle.rules_compiler.specs.Code.{Code, Then, instructions}

@@ -1,5 +1,5 @@
 -- The flow of short texts that are read in the key itself, before a helper is called.
-use Rattle.std.proofs.Common.{◌≡◌, ℕ, suc, ◌+◌, ◌-◌, ◌<◌, ◌≤◌, pos, ◌+ℤ◌, true, false, max, min, int_le}
+use Rattle.std.proofs.Common.{◌≡◌, ℕ, suc, ◌+◌, ◌<◌, ◌≤◌, pos, ◌+ℤ◌, true, false, max, min, int_le}
 use Rattle.std.proofs.Common.{List, [], ◌∷◌, length, Option, Some, None, refl, arith}
 use Rattle.std.proofs.lemmas.Bool.{le-leb, ne_eqb}
 use Rattle.std.proofs.lemmas.{Int.ints}
@@ -20,7 +20,6 @@ use Rattle.verifier_spec.specs.{Annotation.is_edge_covered}
 use Rattle.verifier_spec.specs.Transfer.{falls_to, jumps_to, with_range, narrowed_range}
 use Rattle.verifier_spec.proofs.{Safety.failed_from, Whole.le-le_z, StackSets.nothing_set, Proper.range_refl, Joins.within_refl}
 use Rattle.verifier_spec.proofs.Order.{within_from, each_below_at, narrower_from}
-use Rattle.rules.specs.declared.rule.Layout.TheVariants.{Byte}
 use Rattle.rules_compiler.specs.Code.{instructions}
 use Rattle.rules_compiler.specs.Pieces.{set}
 use Rattle.rules_compiler.specs.Tests.{match_code, match_test_code}
@@ -35,7 +34,7 @@ use Rattle.verifier_spec.specs.States.{entry_state}
 use Rattle.std.specs.Int.Count.{count_leading_zeros}
 use Rattle.rules.specs.declared.{rule.Test.Test as Tests}
 use Rattle.rules.specs.declared.rule.Test.TheVariants as test
-use Rattle.rules.specs.Lines.{Formula, Single, Negated, Both, Either}
+use Rattle.rules.specs.Formulas.{Formula, Single, Negated, Both, Either}
 use Rattle.rules.specs.Limits.{IsText, FitsTest, HasFitting}
 use Rattle.rules_compiler.specs.Pieces.{copy, change}
 use Rattle.rules_compiler.specs.Tests.{is_short}

@@ -12,7 +12,8 @@ use Rattle.machine_spec.specs.declared.{instruction.Instruction.TheVariants.Jump
 use Rattle.machine_spec.specs.declared.operation.Operation.TheVariants.{Xor}
 use Rattle.machine_spec.specs.declared.operation.Test.TheVariants as jumps
 use Rattle.rules.specs.declared.{rule.Test.Test as Tests}
-use Rattle.rules.specs.Lines.{Formula, Single, Negated, Both, Either, Line, line_of, lines_of}
+use Rattle.rules.specs.Formulas.{Formula, Single, Negated}
+use Rattle.rules.specs.Lines.{Line, line_of, lines_of}
 use Rattle.rules_compiler.specs.declared.{fault.CompileFault.CompileFault, fault.Refusal.Refusal}
 use Rattle.rules_compiler.specs.declared.fault.CompileFault.TheVariants as fault
 use Rattle.rules_compiler.specs.declared.fault.Refusal.TheVariants as refusal
@@ -189,32 +190,6 @@ pub negated_long : (inner : Formula) (r : Refusal) → IsTooLong (instructions (
     IsTooLong (instructions (condition_code (Negated inner))) r
 unfolding condition_code
 negated_long inner r long = first_long (condition_code inner) (Plain (change Xor TRUTH (pos 1) ∷ [])) r long
-
-pub both_one_long : (one other : Formula) (r : Refusal) → IsTooLong (instructions (condition_code one)) r →
-    IsTooLong (instructions (condition_code (Both one other))) r
-unfolding condition_code
-both_one_long one other r long =
-    first_long (condition_code one) (Unless jumps.Equal TRUTH (Immediate (pos 0)) (condition_code other)) r long
-
-pub both_other_long : (one other : Formula) (r : Refusal) → IsTooLong (instructions (condition_code other)) r →
-    IsTooLong (instructions (condition_code (Both one other))) r
-unfolding condition_code
-both_other_long one other r long =
-    next_long (condition_code one) (Unless jumps.Equal TRUTH (Immediate (pos 0)) (condition_code other)) r
-    (block_long jumps.Equal TRUTH (Immediate (pos 0)) (condition_code other) r long)
-
-pub either_one_long : (one other : Formula) (r : Refusal) → IsTooLong (instructions (condition_code one)) r →
-    IsTooLong (instructions (condition_code (Either one other))) r
-unfolding condition_code
-either_one_long one other r long =
-    first_long (condition_code one) (Unless jumps.NotEqual TRUTH (Immediate (pos 0)) (condition_code other)) r long
-
-pub either_other_long : (one other : Formula) (r : Refusal) → IsTooLong (instructions (condition_code other)) r →
-    IsTooLong (instructions (condition_code (Either one other))) r
-unfolding condition_code
-either_other_long one other r long =
-    next_long (condition_code one) (Unless jumps.NotEqual TRUTH (Immediate (pos 0)) (condition_code other)) r
-    (block_long jumps.NotEqual TRUTH (Immediate (pos 0)) (condition_code other) r long)
 
 -- ---- rules one after another
 

@@ -10,7 +10,8 @@ use Rattle.machine_spec.specs.declared.operation.Test.TheVariants as jumps
 use Rattle.machine_spec.specs.Values.{Number}
 use Rattle.machine_spec.specs.Machine.{Input, State, state_after, goes_to, entry, Yield}
 use Rattle.verifier_spec.specs.StandsFor.{IsInput}
-use Rattle.rules.specs.Lines.{Formula, Line}
+use Rattle.rules.specs.Formulas.{Formula}
+use Rattle.rules.specs.Lines.{Line}
 use Rattle.rules.specs.Meaning.{holds, holds_if, takes, chosen}
 use Rattle.rules.specs.Outcomes.{outcome_of_action}
 use Rattle.rules.specs.Outcomes.{outcome_of_chosen, outcome_of_rules}

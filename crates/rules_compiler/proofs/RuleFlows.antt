@@ -24,7 +24,8 @@ use Rattle.rules.specs.declared.{rule.Part.Part}
 use Rattle.rules.specs.declared.{rule.Output.Output, rule.Action.Action}
 use Rattle.rules.specs.declared.rule.Output.TheVariants as output
 use Rattle.rules.specs.declared.rule.Action.TheVariants as action
-use Rattle.rules.specs.Lines.{Formula, Line}
+use Rattle.rules.specs.Formulas.{Formula}
+use Rattle.rules.specs.Lines.{Line}
 use Rattle.rules_compiler.specs.Code.{Code, Plain, Ends, Then}
 use Rattle.rules_compiler.specs.Pieces.{set, copy, change, high_half, low_half, word_count, text_code, part_code}
 use Rattle.rules_compiler.specs.Actions.{drop_code, plain_code, hashed_code, part_cut_code, rest_cut_code, cut_code}

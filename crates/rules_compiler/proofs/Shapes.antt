@@ -25,7 +25,7 @@ use Rattle.verifier_spec.proofs.{Joins.within_refl}
 use Rattle.rules.specs.declared.{rule.Part.Part}
 use Rattle.rules.specs.declared.{rule.Test.Test as Tests}
 use Rattle.rules.specs.declared.rule.Test.TheVariants as test
-use Rattle.rules.specs.Lines.{Formula, Single, Negated, Both, Either}
+use Rattle.rules.specs.Formulas.{Formula, Single, Negated, Both, Either}
 use Rattle.rules_compiler.specs.Code.{Code, Plain, Then, Unless}
 use Rattle.rules_compiler.specs.Pieces.{set, copy, change, word_count, text_code, part_code}
 use Rattle.rules_compiler.specs.Tests.{sized, name_text, stands, text_test_code, length_test_code, test_code}

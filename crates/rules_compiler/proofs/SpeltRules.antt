@@ -10,7 +10,8 @@ use Rattle.rules.specs.declared.{rule.Part.Part}
 use Rattle.rules.specs.declared.{rule.Output.Output, rule.AddedHeader.AddedHeader, rule.Action.Action}
 use Rattle.rules.specs.declared.rule.Output.TheVariants as output
 use Rattle.rules.specs.declared.rule.Action.TheVariants as action
-use Rattle.rules.specs.Lines.{Formula, Line}
+use Rattle.rules.specs.Formulas.{Formula}
+use Rattle.rules.specs.Lines.{Line}
 use Rattle.rules.specs.Limits.{IsText, FitsPart, FitsEnd, FitsOutput, FitsAdded, FitsAction, FitsWhen, FitsLine}
 use Rattle.rules_compiler.specs.Code.{Code, Ends, Then}
 use Rattle.rules_compiler.specs.Pieces.{set, copy, change, number_code, text_code}

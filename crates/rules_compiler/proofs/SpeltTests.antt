@@ -18,7 +18,7 @@ use Rattle.rules.specs.declared.{rule.Test.Test as Tests}
 use Rattle.rules.specs.declared.rule.Part.TheVariants as part
 use Rattle.rules.specs.declared.rule.Term.TheVariants as term
 use Rattle.rules.specs.declared.rule.Test.TheVariants as test
-use Rattle.rules.specs.Lines.{Formula, Single, Negated, Both, Either}
+use Rattle.rules.specs.Formulas.{Formula, Single, Negated, Both, Either}
 use Rattle.rules.specs.Limits.{IsText, FitsPart, FitsTerm, FitsTest, HasFitting}
 use Rattle.rules_compiler.specs.Pieces.{set, change, number_code, text_code}
 use Rattle.rules_compiler.specs.Pieces.{part_code}

@@ -3,26 +3,31 @@ use Rattle.std.specs.Prelude.{pos, Bool, true, false, ◌&&◌, if◌then◌else
 use Rattle.machine_spec.specs.declared.instruction.Source.TheVariants.{Immediate}
 use Rattle.machine_spec.specs.declared.operation.Operation.TheVariants.{Xor}
 use Rattle.machine_spec.specs.declared.operation.Test.TheVariants.{Equal, NotEqual, Less}
+use Rattle.machine_spec.specs.declared.operation.Test.{Test as Jump}
 use Rattle.rules.specs.declared.{rule.Part.Part, rule.Test.Test}
 use Rattle.rules.specs.declared.rule.Part.TheVariants as part
 use Rattle.rules.specs.declared.rule.Test.TheVariants as test
-use Rattle.rules.specs.Lines.{Formula, Single, Negated, Both, Either, Line}
+use Rattle.rules.specs.Formulas.{Formula, Single, Negated, Both, Either}
+use Rattle.rules.specs.Lines.{Line}
 use Rattle.rules_compiler.specs.declared.pieces.TheConstants.{ANSWER, LENGTH, TRUTH, VALUE, KEY, KEY_LENGTH}
 use Rattle.rules_compiler.specs.Code.{Code, Plain, Ends, Then, Unless}
 use Rattle.rules_compiler.specs.{Pieces.set, Pieces.copy, Pieces.change, Tests.test_code, Actions.action_code}
 use Rattle.rules_compiler.specs.Tests.{is_short, match_test_code}
 
+-- code, and behind it code that is left out where r8 passes a test against 0
+abbrev pub joined_code : Jump → (one other : Code) → Code
+joined_code how one other = Then one (Unless how TRUTH (Immediate (pos 0)) other)
+
 -- r8 gets whether a condition holds; what stands behind `and` and `or` is left out where what stands before decides
 unfoldable pub condition_code : Formula → Code
 condition_code (Single t) = test_code t
 condition_code (Negated inner) = Then (condition_code inner) (Plain (change Xor TRUTH (pos 1) ∷ []))
-condition_code (Both one other) = Then (condition_code one) (Unless Equal TRUTH (Immediate (pos 0)) (condition_code other))
-condition_code (Either one other) =
-    Then (condition_code one) (Unless NotEqual TRUTH (Immediate (pos 0)) (condition_code other))
+condition_code (Both one other) = joined_code Equal (condition_code one) (condition_code other)
+condition_code (Either one other) = joined_code NotEqual (condition_code one) (condition_code other)
 
 -- an action that is left out where the condition before it does not hold
 abbrev pub guarded_code : Option Formula → Code → Code
-guarded_code (Some c) block = Then (condition_code c) (Unless Equal TRUTH (Immediate (pos 0)) block)
+guarded_code (Some c) block = joined_code Equal (condition_code c) block
 guarded_code None block = block
 
 unfoldable pub line_code : Line → Code

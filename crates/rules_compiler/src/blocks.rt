@@ -1,25 +1,24 @@
 //! Blocks that may be left out.
 
-ghost use Rattle.std.specs.Prelude.{◌≡◌, ◌++◌, ◌∷◌, pos, length, OnOk, IfErr};
+ghost use Rattle.std.specs.Prelude.{◌≡◌, ◌≤◌, ◌++◌, ◌∷◌, pos, length, take, drop, OnOk, IfErr};
 ghost use Rattle.rules_compiler.specs.Faults.{IsTooLong};
 
 use crate::fault::Refusal;
 use crate::pieces::{TRUTH, skip_if};
 use machine_spec::{Instruction, MAX_SLOTS, Source, Test, Width};
 
-/// Code that is left out where the condition before it passes a test against 0.
-pub fn put_unless(
-    code: &mut Vec<Instruction>,
-    test: Test,
-    block: &[Instruction],
-) -> Result<(), Refusal>
-    ensures code { OnOk result (code.new.items ≡ code.old.items ++ (Instruction.JumpIf Width.Bits64 test TRUTH (Source.Immediate (pos 0)) (pos (length block.now)) ∷ block.now)) }
-    ensures long { IfErr result (IsTooLong block.now) }
+/// Has the code from a place on left out where the condition before it passes a test against 0. It is called, so that
+/// nothing of it is on the stack while that code is put.
+#[inline(never)]
+pub fn put_unless(code: &mut Vec<Instruction>, place: usize, test: Test) -> Result<(), Refusal>
+    requires { place ≤ length code.old.items }
+    ensures code { OnOk result (code.new.items ≡ take place code.old.items ++ (Instruction.JumpIf Width.Bits64 test TRUTH (Source.Immediate (pos 0)) (pos (length (drop place code.old.items))) ∷ drop place code.old.items)) }
+    ensures long { IfErr result (IsTooLong (drop place code.old.items)) }
 {
-    if block.len() > MAX_SLOTS {
+    let size = code.len() - place;
+    if size > MAX_SLOTS {
         return Err(Refusal::Far);
     }
-    code.push(skip_if(test, TRUTH, 0, block.len() as i16))?;
-    code.extend_from_slice(block)?;
+    code.insert(place, skip_if(test, TRUTH, 0, size as i16))?;
     Ok(())
 }

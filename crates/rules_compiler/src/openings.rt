@@ -2,6 +2,7 @@
 //! short text.
 
 ghost use Rattle.std.specs.Prelude.{◌≡◌, ◌++◌, OnOk, IfErr};
+ghost use Rattle.rules.specs.Formulas.{BeginWhole, first_in};
 ghost use Rattle.rules.specs.Limits.{FitsText, FitsTest, HasFitting, FitsLine};
 ghost use Rattle.rules.specs.Lines.{formula_of, line_of};
 ghost use Rattle.rules_compiler.specs.Code.{instructions};
@@ -15,7 +16,7 @@ use crate::fault::Refusal;
 use crate::pieces::{KEY, KEY_LENGTH, LENGTH, TRUTH, VALUE, change, copy};
 use crate::values::{is_short, put_match_test};
 use machine_spec::{Instruction, Operation};
-use rules::{Condition, Part, Rule, Test};
+use rules::{Condition, Node, Part, Rule, Test};
 use std::alloc::{AllocError, Global};
 
 fn is_key(part: &Part) -> bool
@@ -36,22 +37,13 @@ fn asks_key(test: &Test) -> bool
     }
 }
 
-fn asks_single(condition: &Condition) -> bool
-    ensures { result ≡ definitions.asks_single (formula_of condition.now) }
-{
-    match condition {
-        Condition::Test(test) => asks_key(test),
-        Condition::Not(_) | Condition::And(_, _) | Condition::Or(_, _) => false,
-    }
-}
-
 /// Whether a condition asks the key alone for a short text, or denies what does.
 fn asks_alone(condition: &Condition) -> bool
     ensures { result ≡ definitions.asks_alone (formula_of condition.now) }
 {
-    match condition {
-        Condition::Not(inner) => asks_single(inner),
-        Condition::Test(_) | Condition::And(_, _) | Condition::Or(_, _) => asks_single(condition),
+    match condition.nodes.as_slice() {
+        [Node::Test(test), ..] | [Node::Not, Node::Test(test), ..] => asks_key(test),
+        _ => false,
     }
 }
 
@@ -71,14 +63,16 @@ fn put_key_test(code: &mut Vec<Instruction>, test: &Test) -> Result<(), AllocErr
     }
 }
 
+/// The condition that nodes begin with.
 #[tactic(auto, unfolding(crate::specs::Rules::key_single_code))]
-fn put_key_single(code: &mut Vec<Instruction>, condition: &Condition) -> Result<(), AllocError>
-    requires { HasFitting FitsText (formula_of condition.now) }
-    ensures { OnOk result (code.new.items ≡ code.old.items ++ instructions (definitions.key_single_code (formula_of condition.now))) }
+fn put_key_single(code: &mut Vec<Instruction>, nodes: &[Node]) -> Result<(), AllocError>
+    requires whole { BeginWhole nodes.now }
+    requires fits { HasFitting FitsText (first_in nodes.now) }
+    ensures { OnOk result (code.new.items ≡ code.old.items ++ instructions (definitions.key_single_code (first_in nodes.now))) }
 {
-    match condition {
-        Condition::Test(test) => put_key_test(code, test),
-        Condition::Not(_) | Condition::And(_, _) | Condition::Or(_, _) => Ok(()),
+    match nodes {
+        [Node::Test(test), ..] => put_key_test(code, test),
+        _ => Ok(()),
     }
 }
 
@@ -87,14 +81,12 @@ fn put_key_condition(code: &mut Vec<Instruction>, condition: &Condition) -> Resu
     requires { HasFitting FitsText (formula_of condition.now) }
     ensures { OnOk result (code.new.items ≡ code.old.items ++ instructions (definitions.key_condition_code (formula_of condition.now))) }
 {
-    match condition {
-        Condition::Not(inner) => {
+    match condition.nodes.as_slice() {
+        [Node::Not, inner @ ..] => {
             put_key_single(code, inner)?;
             code.extend_from_slice(&[change(Operation::Xor, TRUTH, 1)])
         }
-        Condition::Test(_) | Condition::And(_, _) | Condition::Or(_, _) => {
-            put_key_single(code, condition)
-        }
+        nodes => put_key_single(code, nodes),
     }
 }
 
@@ -115,9 +107,9 @@ pub fn put_rule(alloc: Global, code: &mut Vec<Instruction>, rule: &Rule) -> Resu
     match &rule.condition {
         Some(condition) => {
             put_condition(alloc, code, condition)?;
-            let mut block = Vec::new(alloc);
-            put_action(&mut block, &rule.action)?;
-            put_unless(code, machine_spec::Test::Equal, &block)
+            let place = code.len();
+            put_action(code, &rule.action)?;
+            put_unless(code, place, machine_spec::Test::Equal)
         }
         None => {
             put_action(code, &rule.action)?;
@@ -137,9 +129,9 @@ pub fn put_opening(alloc: Global, code: &mut Vec<Instruction>, rule: &Rule) -> R
         Some(condition) if asks_alone(condition) => {
             put_key_condition(code, condition)?;
             put_first(code)?;
-            let mut block = Vec::new(alloc);
-            put_action(&mut block, &rule.action)?;
-            put_unless(code, machine_spec::Test::Equal, &block)
+            let place = code.len();
+            put_action(code, &rule.action)?;
+            put_unless(code, place, machine_spec::Test::Equal)
         }
         Some(_) | None => {
             put_first(code)?;

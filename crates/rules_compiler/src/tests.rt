@@ -139,7 +139,6 @@ fn put_comparing(
 
 #[tactic(auto, unfolding(crate::specs::Tests::term_compare_code))]
 fn put_term_compare(
-    alloc: Global,
     code: &mut Vec<Instruction>,
     term: &Term,
     how: Comparison,
@@ -150,15 +149,14 @@ fn put_term_compare(
     ensures long { IfErr result (IsTooLong (instructions (definitions.term_compare_code term.now how number))) }
 {
     put_term(code, term)?;
-    let mut block = Vec::new(alloc);
-    put_comparing(&mut block, how, number)?;
-    put_unless(code, machine_spec::Test::Equal, &block)
+    let place = code.len();
+    put_comparing(code, how, number)?;
+    put_unless(code, place, machine_spec::Test::Equal)
 }
 
 /// Whether a term compares so with a number. The value and its length are at hand.
 #[tactic(auto, unfolding(crate::specs::Tests::compare_code, crate::specs::Tests::value_length_code, crate::specs::Tests::value_compare_code, crate::specs::Tests::value_truth_code))]
 fn put_compare(
-    alloc: Global,
     code: &mut Vec<Instruction>,
     term: &Term,
     how: Comparison,
@@ -183,11 +181,12 @@ fn put_compare(
         | Term::Offset
         | Term::Timestamp
         | Term::Partition
-        | Term::Headers => put_term_compare(alloc, code, term, how, number),
+        | Term::Headers => put_term_compare(code, term, how, number),
     }
 }
 
-/// A test.
+/// A test. It is called, so that nothing of it is on the stack where conditions nest.
+#[inline(never)]
 #[tactic(auto, unfolding(crate::specs::Tests::test_code))]
 pub fn put_test(alloc: Global, code: &mut Vec<Instruction>, test: &Test) -> Result<(), Refusal>
     requires { FitsTest FitsText test.now }
@@ -200,7 +199,7 @@ pub fn put_test(alloc: Global, code: &mut Vec<Instruction>, test: &Test) -> Resu
         Test::Equal(part, text) => put_equal(code, part, text)?,
         Test::Begins(part, text) => put_begins(code, part, text)?,
         Test::Has(part, text) => put_has(alloc, code, part, text)?,
-        Test::Compare(term, how, number) => put_compare(alloc, code, term, *how, *number)?,
+        Test::Compare(term, how, number) => put_compare(code, term, *how, *number)?,
     }
     Ok(())
 }

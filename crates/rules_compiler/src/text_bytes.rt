@@ -1,12 +1,13 @@
 //! That texts of rules are bytes. A type says so of the bytes that are at hand, so they are taken in turn; nothing is
 //! done with them, and a compiler leaves the walk out.
 
-ghost use Rattle.std.specs.Prelude.{ℕ, ◌<◌, slice_index, option_map};
+ghost use Rattle.std.specs.Prelude.{◌≡◌, ℕ, ◌<◌, length, slice_index, option_map};
 ghost use Rattle.std.specs.List.{AllByRecursion};
+ghost use Rattle.rules.specs.Formulas.{BeginWhole, first_in, formulas_of, behind_first};
 ghost use Rattle.rules.specs.Limits.{FitsText, IsText, FitsPart, FitsTerm, FitsTest, HasFitting, FitsOutput, FitsAdded, FitsAction, FitsWhen, FitsLine};
 ghost use Rattle.rules.specs.Lines.{formula_of, line_of, lines_of};
 
-use rules::{Action, AddedHeader, Condition, Output, Part, Rule, Term, Test, Text};
+use rules::{Action, AddedHeader, Condition, Node, Output, Part, Rule, Term, Test, Text};
 
 #[inline(always)]
 fn are_bytes(bytes: &[u8])
@@ -56,18 +57,33 @@ fn test_has_texts(test: &Test)
     }
 }
 
+/// The texts of the condition that nodes begin with are bytes; the nodes behind it.
+fn first_has_texts<'a>(nodes: &'a [Node]) -> &'a [Node]
+    requires whole { BeginWhole nodes.now }
+    requires fits { HasFitting FitsText (first_in nodes.now) }
+    ensures texts { HasFitting IsText (first_in nodes.now) }
+    ensures rest { formulas_of result.now ≡ behind_first nodes.now }
+    ensures shorter { length result.now < length nodes.now }
+{
+    match nodes {
+        [] => unreachable!(),
+        [Node::Test(test), rest @ ..] => {
+            test_has_texts(test);
+            rest
+        }
+        [Node::Not, rest @ ..] => first_has_texts(rest),
+        [Node::And | Node::Or, rest @ ..] => {
+            let next = first_has_texts(rest);
+            first_has_texts(next)
+        }
+    }
+}
+
 fn condition_has_texts(condition: &Condition)
     requires { HasFitting FitsText (formula_of condition.now) }
     ensures { HasFitting IsText (formula_of condition.now) }
 {
-    match condition {
-        Condition::Test(test) => test_has_texts(test),
-        Condition::Not(inner) => condition_has_texts(inner),
-        Condition::And(one, other) | Condition::Or(one, other) => {
-            condition_has_texts(one);
-            condition_has_texts(other);
-        }
-    }
+    let _ = first_has_texts(&condition.nodes);
 }
 
 fn when_has_texts(condition: &Option<Condition>)

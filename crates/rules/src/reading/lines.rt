@@ -9,11 +9,12 @@ ghost use Rattle.rules.specs.declared.fault.LineFault.TheVariants as faults;
 ghost use Rattle.rules.specs.declared.fault.RuleFault.TheVariants as rule_faults;
 ghost use Rattle.rules.specs.Reading as definitions;
 
+use crate::condition::Condition;
 use crate::fault::{LineFault, RuleFault, at_line, spot_at};
-use crate::limits::{MAX_RULES, MAX_STEPS};
+use crate::limits::MAX_RULES;
 use crate::reading::actions::action_at;
-use crate::reading::conditions::any_at;
-use crate::rule::{Condition, Rule};
+use crate::reading::conditions::condition_at;
+use crate::rule::Rule;
 use crate::scan::{after_word, is_end, skipped, unexpected};
 use std::alloc::Global;
 
@@ -25,8 +26,8 @@ fn when_at(alloc: Global, text: &[u8]) -> Result<(Option<Condition>, &[u8]), Lin
     let Some(rest) = after_word(text, b"when") else {
         return Ok((None, text));
     };
-    let (condition, rest) = any_at(alloc, MAX_STEPS, rest)?;
-    Ok((Some(Box::into_inner(condition)), rest))
+    let (condition, rest) = condition_at(alloc, rest)?;
+    Ok((Some(condition), rest))
 }
 
 /// The rule of a whole line.

@@ -1,11 +1,14 @@
 //! Tests and conditions as they are printed.
 
-ghost use Rattle.std.specs.Prelude.{◌≡◌, ◌++◌, OnOk};
+ghost use Rattle.std.specs.Prelude.{◌≡◌, ◌<◌, ◌++◌, length, OnOk, IfOk};
+ghost use Rattle.rules.specs.declared.level.Level.TheVariants as level;
+ghost use Rattle.rules.specs.Formulas.{BeginWhole, first_in, formulas_of, behind_first};
 ghost use Rattle.rules.specs.Lines.{formula_of};
 ghost use Rattle.rules.specs.Writing as definitions;
 
+use crate::condition::{Condition, Node};
 use crate::level::Level;
-use crate::rule::{Comparison, Condition, Part, Term, Test, Text};
+use crate::rule::{Comparison, Part, Term, Test, Text};
 use crate::writing::pieces::{push_number, push_part, push_text};
 use crate::writing::terms::push_term;
 use std::alloc::{AllocError, Global};
@@ -111,35 +114,56 @@ fn push_close(out: &mut Vec<u8>, encloses: bool) -> Result<(), AllocError>
     }
 }
 
-/// A condition, in parentheses where it needs some at this level.
+/// The condition that nodes begin with, in parentheses where it needs some at this level; the nodes behind it.
 #[tactic(auto, unfolding(crate::specs::Writing::condition_text))]
-pub fn push_condition(
+fn push_first<'a>(
     alloc: Global,
     out: &mut Vec<u8>,
     level: Level,
-    condition: &Condition,
-) -> Result<(), AllocError>
-    ensures { OnOk result (out.new.items ≡ out.old.items ++ definitions.condition_text level (formula_of condition.now)) }
+    nodes: &'a [Node],
+) -> Result<&'a [Node], AllocError>
+    requires { BeginWhole nodes.now }
+    ensures text { OnOk result (out.new.items ≡ out.old.items ++ definitions.condition_text level (first_in nodes.now)) }
+    ensures rest { IfOk result (λ rest. formulas_of rest.now ≡ behind_first nodes.now) }
+    ensures shorter { IfOk result (λ rest. length rest.now < length nodes.now) }
 {
-    match condition {
-        Condition::Test(test) => push_test(alloc, out, test),
-        Condition::Not(inner) => {
+    match nodes {
+        [] => unreachable!(),
+        [Node::Test(test), rest @ ..] => {
+            push_test(alloc, out, test)?;
+            Ok(rest)
+        }
+        [Node::Not, rest @ ..] => {
             out.extend_from_slice(b"not ")?;
-            push_condition(alloc, out, Level::One, inner)
+            push_first(alloc, out, Level::One, rest)
         }
-        Condition::And(one, other) => {
+        [Node::And, rest @ ..] => {
             push_open(out, encloses_and(level))?;
-            push_condition(alloc, out, Level::One, one)?;
+            let next = push_first(alloc, out, Level::One, rest)?;
             out.extend_from_slice(b" and ")?;
-            push_condition(alloc, out, Level::All, other)?;
-            push_close(out, encloses_and(level))
+            let rest = push_first(alloc, out, Level::All, next)?;
+            push_close(out, encloses_and(level))?;
+            Ok(rest)
         }
-        Condition::Or(one, other) => {
+        [Node::Or, rest @ ..] => {
             push_open(out, encloses_or(level))?;
-            push_condition(alloc, out, Level::All, one)?;
+            let next = push_first(alloc, out, Level::All, rest)?;
             out.extend_from_slice(b" or ")?;
-            push_condition(alloc, out, Level::Any, other)?;
-            push_close(out, encloses_or(level))
+            let rest = push_first(alloc, out, Level::Any, next)?;
+            push_close(out, encloses_or(level))?;
+            Ok(rest)
         }
     }
+}
+
+/// A condition, as it stands behind `when`.
+pub fn push_condition(
+    alloc: Global,
+    out: &mut Vec<u8>,
+    condition: &Condition,
+) -> Result<(), AllocError>
+    ensures { OnOk result (out.new.items ≡ out.old.items ++ definitions.condition_text level.Any (formula_of condition.now)) }
+{
+    push_first(alloc, out, Level::Any, &condition.nodes)?;
+    Ok(())
 }
