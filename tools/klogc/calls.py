@@ -175,6 +175,7 @@ class Calls(Memory):
         elif region == "stack":
             lo, hi = span(part.address.value, 0, unsigned(part.length.value)[1])
             self.touch(max(lo, 0), min(hi, self.used))
+            self.not_of_addresses(s, part.address, 0, part.length)
             self.stack_bytes(s, part, (to, count), self.used, -STACK)
         elif isinstance(region, tuple) and region[0] == "constants":
             self.constant_bytes(s, part, (to, count))

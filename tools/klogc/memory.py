@@ -56,9 +56,7 @@ class Memory(Jumps):
                 self.never("a place outside is used")
         x = a
         if offset and (signed(v)[0] < 0 or lo - offset < 0):
-            x = self.temp()
-            self.emit(Alu("sub" if offset < 0 else "add", 64, x, a, abs(offset)))
-            offset = 0
+            x, offset = self.moved(a, offset), 0
         s.narrow(v, lo - offset if x is a else v.lo, hi - offset if x is a else v.hi)
         return x, offset, lo - offset, hi - offset
 
@@ -80,6 +78,31 @@ class Memory(Jumps):
             self.may_fault("an index may lead outside the variable: test first that it is below the number of elements")
         elif hi > self.used:
             self.may_reject(OUTSIDE)
+
+    def not_of_addresses(self, s: State, given: Given, offset, count: Given):
+        """The way ends where bytes of the stack are read as numbers that are those of an address, which the image has otherwise."""
+        (v, at), (n, length) = given, count
+        for first, end in s.addresses(*span(v, offset, unsigned(n)[1])):
+            if v.is_const() and n.is_const():
+                self.never("a part of an address is used as a number")
+            self.may_reject(OUTSIDE)
+            # They have bytes of this run if their end is less than the lengths of both after its first byte.
+            if v.is_const():
+                past = self.moved(length, v.lo + offset - 1 - first)
+            elif n.is_const():
+                past = self.moved(at, n.lo + offset - 1 - first)
+            else:
+                both = self.temp()
+                self.emit(Alu("add", 64, both, at, length))
+                past = self.moved(both, offset - 1 - first)
+            both = end - first - 1
+            self.emit(Test("lt", 64, past, both + n.lo if n.is_const() else self.moved(length, both), OUTSIDE, False))
+
+    def moved(self, a, count):
+        """A variable that is another one and a constant."""
+        x = self.temp()
+        self.emit(Alu("sub" if count < 0 else "add", 64, x, a, abs(count)))
+        return x
 
     # ---- loads
 
@@ -115,6 +138,8 @@ class Memory(Jumps):
             return
         self.index(given.value, offset, size)
         self.touch(max(lo, 0), min(hi, self.used))
+        if size < 8:
+            self.not_of_addresses(s, given, offset, Given(const(size), size))
         at, add = self.point(s, given, offset, (0, self.used - size), FRAME, -STACK)
         self.emit(Load(size, is_signed, self.name(dst), at, add))
         known = self.extended(size, is_signed)
@@ -135,6 +160,8 @@ class Memory(Jumps):
         self.touch(at, at + size)
         known = self.known_place(s, at, size)
         if known is None:
+            if size < 8:
+                self.not_of_addresses(s, Given(const(at), at), 0, Given(const(size), size))
             known = number(0, (1 << 8 * size) - 1)
             known = known.in_region(s.kind_at(at, at + 8)) if size == 8 else known
             s.memory.setdefault(at, Held(size, known))

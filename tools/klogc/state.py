@@ -126,6 +126,15 @@ class State(Bounds):
         kinds = {self.words[at] for at in range(max(lo, 0) & -8, min(hi, 512), 8) if at in self.words}
         return None if not kinds else kinds.pop() if len(kinds) == 1 else MIXED
 
+    def addresses(self, lo, hi):
+        """The runs of bytes between that have an address on all ways, each with its first byte and the one after its last."""
+        runs = []
+        for at in range(max(lo, 0) & -8, min(hi, 512), 8):
+            if self.words.get(at, MIXED) not in (None, MIXED):
+                first = runs.pop()[0] if runs and runs[-1][1] == at else at
+                runs.append((first, at + 8))
+        return runs
+
     def known_byte(self, place):
         """A byte of the stack, if a store left a constant there."""
         for at in range(place, place - 8, -1):

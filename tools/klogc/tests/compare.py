@@ -5,8 +5,8 @@
                                  [--option=OPTION] [--log FILE]
 
 The object's code and the image run by klogc's interpreter (meaning.py), and with one record in ten the image runs on the machine of
-tools/dev too. Where the object's code does what it must not, the image may do anything but trap; a program that is refused for it
-is tried again with codes 252. The last line counts the programs and the runs, which are a program on a record each: those with the same
+tools/dev too. Where the object's code does what it must not, the image may do anything but trap, and where that is to use a part of an
+address as a number, the image must end with a code of klogc's; a program that is refused for it is tried again with codes 252. The last line counts the programs and the runs, which are a program on a record each: those with the same
 outcome, with a code of klogc's own instead of it, and with a trap of the object's code; those that differ; and the programs that are
 refused. The status is 1 where an outcome differs."""
 import argparse
@@ -23,7 +23,7 @@ if __name__ == "__main__":
 
 from klogc.compiler import Compiler
 from klogc.lower import lower
-from klogc.meaning import Emission, Record, Run, Trap
+from klogc.meaning import ADDRESS, Emission, Record, Run, Trap
 from klogc.program import Place, Program, Refused
 from klogc.tests.programs import source
 
@@ -33,7 +33,7 @@ from second_broker import Record as Spelled
 OUTPUTS = 4
 PROGRAMS_IN_ONE = 100
 LEVELS = ("-O1", "-O2", "-Os")
-LOOP, ROOM = 251, 250
+LOOP, ROOM, OUTSIDE = 251, 250, 252
 MACHINE_EVERY = 10
 TEXTS = (b'{"id":1,"name":"x"}', b"a,b,c", b"key=value", b"4111111111111111", b"Hello, World\n", b"}", b"2026-11-26 x", b"heartbeat", b"07\x03abc", b"\x08\x96\x01")
 EDGES = (0, 1, 2, 7, 8, 99, 127, 128, 255, 256, 32767, 32768, 65535)
@@ -103,6 +103,8 @@ def judged(expected, got, strict):
     """A word for two outcomes; one that is `wrong` begins so."""
     if isinstance(got, str):
         return f"wrong: {got}"
+    if isinstance(expected, Trap) and str(expected) == ADDRESS:
+        return "trap" if got in (LOOP, ROOM, OUTSIDE) else f"wrong: {expected}, and {str(got)[:200]} came"
     if isinstance(expected, Trap):
         return f"wrong: strict, and {expected}" if strict and "outside" in str(expected) and got not in (LOOP, ROOM) else "trap"
     if got == expected:

@@ -52,6 +52,7 @@ FAULTS = [
     Fault("stores leave what was known", state.State, "forget", lambda old: lambda self, lo, hi: None),
     Fault("a store of few bytes keeps all", memory, "cut", lambda old: lambda w, size: w),
     Fault("a known byte is the first of its word", state.State, "known_byte", lambda old: lambda self, place: old(self, place & -2)),
+    Fault("addresses are numbers", state.State, "addresses", lambda old: lambda self, lo, hi: []),
     Fault("a copy of no bytes is always there", calls.Calls, "empty_room", lambda old: lambda self, helper, given: old(self, 11, given)),
     Fault("a part's place is one off", memory.Memory, "bounded", lambda old: lambda self, s, given, offset, low, high: plus_one(old(self, s, given, offset, low, high))),
     Fault("steps have no sign", numbers, "step", lambda old: lambda name, v, w, width: ("add", *old(name, v, w, width)[1:])),

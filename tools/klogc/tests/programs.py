@@ -76,12 +76,12 @@ TYPES = ("u8", "u16", "u32", "int", "short", "long", "signed char", "u64")
 class Maker:
     def __init__(self, seed, name):
         self.r, self.name, self.depth, self.count = random.Random(seed), name, 0, 0
-        self.cuts = random.Random(f"{seed} cuts")
+        self.cuts, self.peeks = random.Random(f"{seed} cuts"), random.Random(f"{seed} peeks")
         self.length, self.deepest = self.r.choice(SIZES)
 
     def program(self):
         inline = self.r.choice(("__attribute__((noinline)) ", "inline ", ""))
-        return FUNCTIONS % {"name": self.name, "inline": inline} + BODY % {"name": self.name, "begin": self.r.choice(BEGINS), "statements": f"\t{self.cut()}\n{self.statements(self.length)}", "end": self.r.choice(ENDS)}
+        return FUNCTIONS % {"name": self.name, "inline": inline} + BODY % {"name": self.name, "begin": self.r.choice(BEGINS), "statements": f"\t{self.cut()}\n{self.peeked()}{self.statements(self.length)}", "end": self.r.choice(ENDS)}
 
     # ---- expressions
 
@@ -233,6 +233,15 @@ class Maker:
         start, other = r.choice((f"(u8){v}", f"{v} & 31", f"{v} & 127", "(value_length ? value[0] : 70)", f"buf[{v} & 31]")), r.choice((4, 17, first + 2, first + least))
         test, again = r.choice((f"(u8){m} < {least}", f"{m} < {least}", f"{m} >= 0 && {m} < {least}", f"{n} < {other}")), r.choice((f"{n} < {other}", f"(u8){m} > {least}", f"{m} < 0", f"{m} == -3"))
         return (f"{{ {r.choice(('u8', 'int', 'u32'))} {n} = {start}; {kind} {m} = {n} - {first}; if ({test}) {w} += table[{m} & 15] + (u64){m} * 3 + {n}; else if ({again}) {w} ^= ((u64){m} >> 3) + {n}; else {w} += {m}; }}")
+
+    def peeked(self):
+        """In one program of sixteen bytes of the stack are read or emitted that may be those of an address."""
+        r = self.peeks
+        if r.randrange(16):
+            return ""
+        v, w, region = r.choice(VARIABLES), r.choice(VARIABLES), r.choice(("value", "key"))
+        use = r.choice((f"{v} += it.bytes[{w} & 15];", f"emit_value(6, it.bytes, {w} & 15);", f"emit_value(6, it.bytes + ({v} & 7), {w} & 7);", f"{v} ^= *(u16 *)(it.bytes + ({w} & 14));"))
+        return f"\t{{ struct {{ u8 bytes[8]; const u8 *volatile from; }} it = {{{{1, 2, 3}}, {region}}}; {use} if ({region}_length) {v} += it.from[0]; }}\n"
 
     def ordered(self):
         """Which of two numbers is the less, and by how much, is tested again."""

@@ -10,7 +10,7 @@ from second_broker import Record as Spelled
 
 from klogc.compiler import Compiler, Text, arguments_from, operand_of
 from klogc.lower import lower
-from klogc.meaning import Emission, Record, Run
+from klogc.meaning import Emission, Record, Run, Trap
 from klogc.program import Program, Refused
 
 KLOGC = os.path.join(os.path.dirname(os.path.dirname(os.path.abspath(__file__))), "klogc")
@@ -32,6 +32,8 @@ REFUSED = [
     ("unknown", "\textern u64 lookup(u64 n);\n\treturn lookup(value_length); /*!*/", "`lookup` is called, which is not here: klog has the helpers of klog.h, and of C's library memcmp, memcpy and the like"),
     ("number", "\treturn (u64)value >> 3; /*!*/", "an address is multiplied, shifted, or added to one of something else: klog's addresses are not numbers"),
     ("length", "\tu8 text[8] = {0};\n\treturn emit_value(0, text, value_length); /*!*/", "a length of up to 1048576 is passed on with a variable of at most 8 bytes: test the length first"),
+    ("address", "\tconst u8 *volatile at = value;\n\treturn ((volatile u8 *)&at)[3]; /*!*/", "a part of an address is used as a number"),
+    ("address_emitted", "\tconst u8 *volatile at = value;\n\treturn emit_value(0, (const void *)&at, 8); /*!*/", "a part of an address is used as a number"),
     ("room", "\tload_value((void *)key, 0, 4); /*!*/\n\treturn 0;", "a helper writes to the key: give it a variable of the function"),
 ]
 
@@ -163,6 +165,33 @@ class Lowering(unittest.TestCase):
         self.assertEqual([proved for _, proved in image.loops.values()], [False])
         # From 6 it is 8 steps to 1, from 27 they are 111.
         self.assertEqual([run(image, Record(b"k", bytes(n))) for n in (1, 6, 27)], [1, 9, 251])
+
+
+    def test_bytes_of_addresses(self):
+        """Bytes at an unknown place of the stack are read where they are no address's; the others end the program."""
+        held = "\tstruct { u8 bytes[8]; const u8 *volatile from; u8 more[8]; } it = {{1, 2, 3}, value, {4, 5, 6}};\n"
+        use = "\treturn %s; /*!*/"
+        cases = [("byte", "it.bytes[value_length % 24]", lambda n: (1, 2, 3)[n] if n < 3 else 252 if 8 <= n < 16 else [], range(16)),
+                 ("pair", "*(u16 *)(it.bytes + value_length % 23) ? 3 : 4", lambda n: 3 if n < 3 or 16 <= n < 19 else 252 if 7 <= n < 16 else 4, range(23)),
+                 ("first", "emit_value(0, it.bytes, value_length & 15)", lambda n: 252 if n > 8 else [Emission(0, b"k", b"\1\2\3\0\0\0\0\0"[:n])], range(16)),
+                 ("four", "emit_value(0, it.bytes + value_length % 20, 4)", lambda n: 252 if 4 < n < 16 else [Emission(0, b"k", (b"\1\2\3" + bytes(13) + b"\4\5\6\0\0\0\0\0")[n:n + 4])], range(20)),
+                 ("part", "emit_value(0, it.bytes + value_length / 8, value_length & 7)", lambda n: 252 if n // 8 + n % 8 > 8 else [Emission(0, b"k", (b"\1\2\3" + bytes(8))[n // 8:n // 8 + n % 8])], range(64))]
+        data = self.compiled(HEAD + "".join(ENTRY % (name, ("\tif (value_length > 63)\n\t\treturn 9;\n" if name == "part" else "") + held + use % text) for name, text, _, _ in cases))
+        for name, _, wanted, lengths in cases:
+            program = Program(data, name)
+            image = lower(program)
+            self.assertEqual(list(image.codes), [252])
+            code = second_machine.decode(image.data)
+            self.assertIsNone(second_machine.verify(code, image.table))
+            for n in lengths:
+                with self.subTest(name, length=n):
+                    record, want = Record(b"k", bytes(n)), wanted(n)
+                    got = second_machine.run(code, Spelled(0, *record[:3]), 4, (0, 0, 0))
+                    self.assertEqual(got if isinstance(got, int) else [Emission(*e[:3]) for e in got], want)
+                    if want == 252:
+                        self.assertRaisesRegex(Trap, "a part of an address", Run(program, record, 4).outcome)
+                    else:
+                        self.assertEqual(Run(program, record, 4).outcome(), want)
 
 
 class Words(unittest.TestCase):
