@@ -27,8 +27,8 @@ class Bounds(Halves):
 
     def keep_fact(self, terms, region, slacks, c):
         """What may be added on both ways to terms and a constant, which are not negative then, is a fact of the terms."""
-        if terms and None not in slacks and min(slacks) > -LIMIT[region]:
-            self.facts[terms, region] = min(slacks) + c
+        if terms and None not in slacks and (slack := min(slacks)) > -LIMIT[region]:
+            self.facts[terms, region] = slack + c
             self.floors[terms] = max(-c, self.floors.get(terms, -c))
 
     def least_difference(self, v, w, least=None, parts=None):
@@ -73,7 +73,7 @@ class Bounds(Halves):
         first, last, known = w.terms[0], w.terms[-1], []
         if has_length(v.terms) or has_length(w.terms):
             known = [(terms, region, 0) for region, terms in LENGTH_TERMS.items()]
-        known += [(terms, region, k) for (terms, region), k in self.facts.items() if first in terms or last in terms]
+        known += [(terms, region, k) for (terms, region), k in self.facts.items() if first in terms or last is not first and last in terms]
         for terms, region, k in known:
             if (terms, region) != (v.terms, region):
                 self._learn_sum(v, w, less, (terms, region, k))
@@ -139,10 +139,17 @@ class Bounds(Halves):
             hi = min(hi, small(v.c) - self.floors[turned(v.terms)])
         return v._replace(lo=lo, hi=max(lo, hi)) if lo >= 0 else v
 
+    def total(self, v, w):
+        """What is known of the sum of two numbers, or of a place and a length."""
+        return self.settled(added(v.in_region(None), w.in_region(None)))
+
     def slack(self, v, region):
         """The most that is known to be possible to add to v, which is not negative, so that it is still at most the region's
         length; or None."""
-        v = self.settled(v)
+        return self.settled_slack(self.settled(v), region)
+
+    def settled_slack(self, v, region):
+        """The same of a number that has the bounds that its terms are known to have."""
         if v.lo < 0 or v.hi >= HALF:
             return None
         slack, terms, c = self.least[region] - v.hi, v.terms, small(v.c)

@@ -213,7 +213,7 @@ class Calls(Memory):
         if high < 0 or first + least > top:
             self.never(f"{bytes_text(low, low + max(least, 1))} a variable are passed on, which are outside it")
         certain = min(most, top - first)
-        end = s.settled(added(v.in_region(None), part.length.value))
+        end = s.total(v, part.length.value)
         if low >= 0 and 0 <= end.lo and end.hi <= top:
             pass
         elif low >= 0 and top < high + most <= STACK:
@@ -235,7 +235,7 @@ class Calls(Memory):
 
     def part_end(self, s: State, part: Bytes, top):
         """Tests that a part ends at `top` at the latest, where that is not known."""
-        end = s.settled(added(part.address.value.in_region(None), part.length.value))
+        end = s.total(part.address.value, part.length.value)
         if 0 <= end.lo and end.hi <= top:
             return
         self.may_reject(OUTSIDE)

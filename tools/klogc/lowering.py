@@ -1,6 +1,7 @@
 """Runs a program's blocks in an order that leads forward, a copy of each for each round of the loops around it and for each way in
 which its variables are addresses, with what is known there, and writes the code."""
 import collections
+import functools
 import heapq
 
 from .code import ENTRY, LOOP, Entry, Goto, Move, Variable, register
@@ -45,7 +46,7 @@ class Lowering(Library):
         self.live, self.read = program.liveness(), {}
         self.made_copies: dict[tuple, Copy] = {}
         self.steps: dict[Place, list] = {}
-        self.waiting: dict[Copy, State] = {}
+        self.waiting: dict[Copy, list[State]] = {}
         self.queue: list = []
         self.deepest: dict[Place, int] = {}
         self.unproved: set[Place] = set()
@@ -66,7 +67,7 @@ class Lowering(Library):
             _, _, copy = heapq.heappop(self.queue)
             self.current = copy
             self.start(copy)
-            self.block(self.program.blocks[copy.place], self.waiting.pop(copy))
+            self.block(self.program.blocks[copy.place], functools.reduce(State.join, self.waiting.pop(copy)))
             if self.size > most:
                 raise TooLong
         return self.blocks
@@ -86,7 +87,7 @@ class Lowering(Library):
     # ---- copies of blocks
 
     def arrive(self, place, rounds, s: State):
-        """A way leads to a copy of a block, which has what is known on all ways to it."""
+        """A way leads to a copy of a block, which has what is known on all ways to it once it is written."""
         if place not in self.read:
             self.read[place] = [register(r) if isinstance(r, int) else register(r[1], self.copies[r[0]]) for r in self.live[place]]
         s.keep(self.read[place] + [name for name in s.variables if name[0] == "slot"])
@@ -94,9 +95,9 @@ class Lowering(Library):
         if self.settings.fine and copy not in self.waiting and self.copies_of[place, rounds] >= MOST_COPIES:
             copy = self.copy_of(place, rounds, s, kind)
         if copy in self.waiting:
-            self.waiting[copy] = self.waiting[copy].join(s)
+            self.waiting[copy].append(s)
             return copy
-        self.waiting[copy] = s
+        self.waiting[copy] = [s]
         self.copies_of[place, rounds] += 1
         key = []
         for at, where in enumerate(self.places[place]):

@@ -1,7 +1,5 @@
 """What is known where two ways of the code meet."""
-import itertools
-
-from .halves import Held, joined_cuts
+from .halves import FAR, Held, joined_cuts
 from .terms import LENGTH_TERMS, has_length, parts_of, plus, sum_in, turned
 from .values import LIMIT, M64, MIXED, added, joined, made, small, summed
 
@@ -111,29 +109,30 @@ class Meeting:
     def _parts(self, new):
         """Of two numbers of which one is not the same on both ways, as the place and the length of a part of the record: how far their
         sum is from the record's end."""
-        one, other, variables = self.one, self.other, self.both.variables
-        known = [(name, v) for name, v in variables.items() if v.terms is not None and v.region in (None, *LIMIT)]
-        sides = [(side, parts_of([terms for terms, _ in side.facts])) for side in (one, other)]
+        one, other = self.one, self.other
+        known = [(name, v, one.variables[name], other.variables[name]) for name, v in self.both.variables.items() if v.terms is not None and v.region in (None, *LIMIT)]
+        parts, others = (parts_of([terms for terms, _ in side.facts]) for side in (one, other))
         ranges = None
-        for v, w in itertools.product([pair for pair in known if pair[0] in new], known):
-            (name, x), (second, y) = v, w
+        for (_, x, *first), (_, y, *second) in pairs_with(new, known):
             if x.region is not None and y.region is not None:
                 continue
-            sums = [sum_in(side.variables[name].terms, side.variables[second].terms, parts) for side, parts in sides]
-            if sums == NO_SUMS:
+            mine, theirs = sum_in(first[0].terms, second[0].terms, parts), sum_in(first[1].terms, second[1].terms, others)
+            if mine is None is theirs:
                 continue
-            for region in LIMIT if x.region is None and y.region is None else (x.region or y.region,):
-                told = [(terms, region) in side.facts for terms, (side, _) in zip(sums, sides)]
-                if any(told):
-                    ranges = ranges or [side.whole_ranges() for side in (one, other)]
-                    slacks = [self._slack(side, added(side.variables[name].in_region(None), side.variables[second].in_region(None)), region, None if all(told) else known)
-                              for side, known in zip((one, other), ranges)]
-                    self.both.keep_fact(summed(x, y, 1), region, slacks, small((x.c + y.c) & M64))
-
-    @staticmethod
-    def _slack(side, v, region, ranges):
-        """How far a sum is from the record's end: by itself where that is known on both ways, which says it sooner."""
-        return side.slack(v, region) if ranges is None else side.whole_slack(v, region, ranges)
+            sums = None
+            for region in LIMIT if x.region is None is y.region else (x.region or y.region,):
+                here, there = (mine, region) in one.facts, (theirs, region) in other.facts
+                if not here and not there:
+                    continue
+                if sums is None:
+                    sums, terms, c = (one.total(first[0], second[0]), other.total(first[1], second[1])), summed(x, y, 1), small((x.c + y.c) & M64)
+                if here and there:
+                    # By the sums themselves, which say it sooner.
+                    slacks = one.settled_slack(sums[0], region), other.settled_slack(sums[1], region)
+                else:
+                    ranges = ranges or (one.whole_ranges(), other.whole_ranges())
+                    slacks = one.whole_slack(sums[0], region, ranges[0]), other.whole_slack(sums[1], region, ranges[1])
+                self.both.keep_fact(terms, region, slacks, c)
 
     def _order(self, new):
         """Of numbers of which one is not the same on both ways: how much at least the one is more than the other."""
@@ -142,18 +141,26 @@ class Meeting:
         sides = []
         for side in (self.one, self.other):
             sides.append((side.variables, {name: side.ends(side.variables[name]) for name, _ in known}, side.least_difference, parts_of(side.floors)))
-        for v, w in itertools.product([pair for pair in known if pair[0] in new], known):
-            (name, x), (second, y) = v, w
-            if x.terms == y.terms or x.region != y.region:
+        for v, w in pairs_with(new, known):
+            if v[1].terms == w[1].terms or v[1].region != w[1].region:
                 continue
-            for (first, p), (then, q) in (((name, x), (second, y)), ((second, y), (name, x))):
-                least = min([difference(held[first], held[then], ends[first][0] - ends[then][1], parts) for held, ends, difference, parts in sides])
-                if least > p.lo - q.hi:
+            for (first, p), (then, q) in ((v, w), (w, v)):
+                least = FAR
+                for held, ends, difference, parts in sides:
+                    least = min(least, difference(held[first], held[then], ends[first][0] - ends[then][1], parts))
+                    if least <= p.lo - q.hi:
+                        break
+                else:
                     terms, least = summed(p, q, -1), least - small(p.c) + small(q.c)
                     floors[terms] = max(least, floors.get(terms, least))
 
 
-NO_SUMS = [None, None]
+def pairs_with(new, known):
+    """The pairs of numbers, each with its name first, of which one is new."""
+    for at, first in enumerate(known):
+        if first[0] in new:
+            yield from [(first, second) for second in known[:at] if second[0] not in new]
+            yield from [(first, second) for second in known[at:]]
 
 
 def shape_of(first, second):

@@ -72,9 +72,11 @@ class State(Bounds):
         for _, v in self.memory.values():
             if v is not None and v.terms:
                 used.update([term for term, _ in v.terms])
-        # Most are of one number, which is looked for here at once.
-        self.facts = {key: k for key, k in self.facts.items() if key[0][0][0] in used and (len(key[0]) == 1 or are_used(key[0], used))}
-        self.floors = {terms: k for terms, k in self.floors.items() if terms[0][0] in used and (len(terms) == 1 or are_used(terms, used))}
+        # Most are of one number or two, which are looked for here at once.
+        self.facts = {key: k for key, k in self.facts.items()
+                      if (terms := key[0])[0][0] in used and terms[-1][0] in used and (len(terms) < 3 or are_used(terms, used))}
+        self.floors = {terms: k for terms, k in self.floors.items()
+                       if terms[0][0] in used and terms[-1][0] in used and (len(terms) < 3 or are_used(terms, used))}
         made = len(self.shifts) + len(self.quotients) + len(self.multiples) + len(self.complements) + len(self.products)
         if made + len(self.scales) + len(self.remainders) + len(self.masks) > FEW_ORIGINS:
             self._keep_origins(used)
