@@ -1,5 +1,6 @@
 """The object's code as blocks: calls of its own functions are followed into a copy of them for each call."""
 import collections
+import copy
 import struct
 from typing import NamedTuple
 
@@ -65,13 +66,22 @@ class Program:
 
     def _read(self, data, name):
         self.obj = Object(data)
-        found = [s for s in self.obj.functions() if s.name == name]
-        if not found:
-            raise Refused(f"there is no function `{name}`; {known_functions(self.obj)}")
         self.functions = {(s.section, s.value // 8): s for s in self.obj.functions()}
         self.sections, self.lines, self.held = {}, {}, {}
         self.functions_of = {}  # what meaning.py makes of the sections
         self.lines_at = {}  # the C lines that were looked for
+        self._reach(name)
+
+    def beside(self, name):
+        """The program of another function of the same object, which is not read again."""
+        other = copy.copy(self)
+        other._reach(name)
+        return other
+
+    def _reach(self, name):
+        found = [s for s in self.obj.functions() if s.name == name]
+        if not found:
+            raise Refused(f"there is no function `{name}`; {known_functions(self.obj)}")
         self.entry = Place((), found[0].section, found[0].value // 8)
         self.blocks = {}
         left = [self.entry]

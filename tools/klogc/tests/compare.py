@@ -112,9 +112,9 @@ def judged(expected, got, strict):
     return str(got) if got in (LOOP, ROOM) else f"wrong: {str(expected)[:200]} is meant, and {str(got)[:200]} came"
 
 
-def compared(data, name, seed, count):
+def compared(program, seed, count):
     """Counts of outcomes for one program, and the first that is wrong."""
-    program, strict = Program(data, name), True
+    strict = True
     try:
         image = lower(program)
     except Refused:
@@ -155,10 +155,11 @@ def compare(compiler, seed, count, number_of_records):
     except Refused as fault:
         print(f"seed {seed}: refused: {fault}", flush=True)
         return collections.Counter({"refused": count, "programs": count}), []
+    first = Program(data, "program0")
     for k in range(count):
         tally["programs"] += 1
         try:
-            found, text = compared(data, f"program{k}", f"{seed} {k}", number_of_records)
+            found, text = compared(first.beside(f"program{k}"), f"{seed} {k}", number_of_records)
         except Refused as fault:
             tally["refused"] += 1
             print(f"seed {seed}, program{k}: refused: {fault}", flush=True)
