@@ -2,14 +2,15 @@
 from typing import Callable
 
 from .code import Variable
-from .halves import FAR, HALF, Halves, Held, narrowed
+from .branches import Branches
+from .halves import FAR, HALF, Held, narrowed
 from .terms import LENGTH_TERMS, MOST_TERMS, has_length, plus, region_of, sum_in, turned
-from .values import LIMIT, Value, added, const, number, small, summed, window
+from .values import FARTHEST, LIMIT, M64, Value, added, const, number, signed, small, summed, window
 
 NEGATED_LENGTHS = {turned(terms): region for region, terms in LENGTH_TERMS.items()}
 
 
-class Bounds(Halves):
+class Bounds(Branches):
     """The part of State that knows of sums; its fields are told there."""
     __slots__ = ()
     variables: dict[Variable, Value]
@@ -22,6 +23,7 @@ class Bounds(Halves):
     scales: dict[tuple, tuple[str, int, int]]
     remainders: dict[tuple, tuple[str, int, int]]
     masks: dict[tuple, tuple[Value, str, int]]
+    answers: dict[tuple, tuple]
     grid: dict[str, tuple[int, int]]
     note: Callable
 
@@ -64,10 +66,10 @@ class Bounds(Halves):
     def learn(self, v, w, less):
         """v is at most w, or below it. Where a sum of w and others is known to be at most a length, that is a fact of the sum of v and
         these: of v itself, where w is at most a length."""
-        v, w = self.settled(v), self.settled(w)
+        v, w = self.settled(self.renamed(v)), self.settled(self.renamed(w))
         if not (is_whole(v) and is_whole(w)) or w.terms is None:
             return
-        if v.terms is not None and max(v.hi, w.hi) <= LIMIT["value"] and (apart := summed(w, v, -1)):
+        if v.terms is not None and max(v.hi, w.hi) <= FARTHEST and (apart := summed(w, v, -1)):
             least = small(v.c) - small(w.c) + less
             self.floors[apart] = max(least, self.floors.get(apart, least))
         first, last, known = w.terms[0], w.terms[-1], []
@@ -132,9 +134,14 @@ class Bounds(Halves):
         terms = v.terms
         if terms and terms[0][0] < 0 and region_of(terms):
             return self.current(v)
-        if 0 <= v.lo and v.hi < HALF or v.terms not in self.floors or abs(small(v.c)) >= FAR:
+        is_whole = 0 <= v.lo and v.hi < HALF
+        if not terms or is_whole and (len(terms) == 1 or turned(terms) not in self.floors) or abs(small(v.c)) >= FAR:
             return v
-        lo, hi = self.floors[v.terms] + small(v.c), min(v.hi, HALF - 1)
+        if not is_whole and terms not in self.floors:
+            return v
+        lo, hi = self.floors.get(terms, -FAR) + small(v.c), min(v.hi, HALF - 1)
+        if is_whole:
+            lo = max(lo, v.lo)
         if turned(v.terms) in self.floors:
             hi = min(hi, small(v.c) - self.floors[turned(v.terms)])
         return v._replace(lo=lo, hi=max(lo, hi)) if lo >= 0 else v
@@ -199,6 +206,9 @@ class Bounds(Halves):
             return False
         if v.terms is None:
             return True
+        v = self.renamed(v)
+        if v.terms is None:
+            return True
         region = v.length_region()
         if region is not None:
             return self._narrow_length(region, small(v.c), lo, hi)
@@ -209,6 +219,8 @@ class Bounds(Halves):
         if v.terms in self.masks and v.c == 0 <= lo and not self.narrow_masked(v, lo, hi):
             return False
         self._raise_least(v, lo)
+        if len(v.terms) > 1:
+            self._narrow_sum(v, lo, hi)
         self._narrow_difference(v, lo, hi)
         self._narrow_rest(v, lo)
         for name, x in self.variables.items():
@@ -219,7 +231,22 @@ class Bounds(Halves):
                 self.memory[at] = Held(size, narrowed(x, v, lo, hi))
         if self.masks:
             self.narrow_cut(v, lo, hi)
+        if v.terms in self.choices:
+            self.choose(v, lo, hi)
+        if v.terms in self.answers:
+            self.hear(v, lo, hi)
         return self._settle_lengths()
+
+    def hear(self, answer, lo, hi):
+        """Learns what a helper's answer tells, which is from lo to hi."""
+        first, last, same, *numbers = self.answers[answer.terms]
+        if first <= lo - small(answer.c) and hi - small(answer.c) <= last:
+            if same is not None:
+                self._replace(answer.terms, same, M64)
+                self.narrow(added(same, const(answer.c)), lo, hi)
+            numbers = [narrowed(v, answer, lo, hi) if v.terms == answer.terms else v for v in numbers]
+            for v, w in zip(numbers[::2], numbers[1::2]):
+                self.learn(v, w, False)
 
     def divide_length(self, region, c, divisor, remainder):
         """A length and a constant have a remainder by a divisor."""
@@ -234,6 +261,13 @@ class Bounds(Halves):
                 least[region] += (remainder - least[region]) % divisor
                 most[region] -= (most[region] - remainder) % divisor
         return least["value"] <= most["value"] and least["key"] <= most["key"]
+
+    def _narrow_sum(self, v, lo, hi):
+        """A sum of several numbers is from lo to hi, which is known when nothing has it any more."""
+        (lo, hi), c = signed(narrowed(v, v, lo, hi)), small(v.c)
+        if -FAR < lo and hi < FAR and -FAR < c < FAR:
+            for terms, least in ((v.terms, lo - c), (turned(v.terms), c - hi)):
+                self.floors[terms] = max(least, self.floors.get(terms, least))
 
     def _narrow_difference(self, v, lo, hi):
         """What it says of a number and of a length that their difference is from lo to hi."""

@@ -4,15 +4,22 @@ from typing import NamedTuple
 from second_machine import HELPERS
 
 from .code import BASE, FRAME, LENGTH, OUTSIDE, ROOM, Alu, Bound, Call, Goto, Move, Point, PointAt, Test, Variable
-from .memory import Memory, bytes_text, span
+from .halves import narrowed
+from .memory import MOST_WAYS, Memory, bytes_text, span
 from .program import STACK
 from .state import State
 from .terms import LENGTH_TERMS
-from .values import added, number, signed, unsigned
+from .values import M64, added, const, length, number, signed, unsigned
 from .writer import Given, region_text
 
 LOADS = {1: "value", 2: "key"}
-LOAD_PART, EQUALS = 14, 16
+PART_LENGTH, LOAD_PART, FIND, EQUALS, DECIMAL = 13, 14, 15, 16, 17
+# The key and the value as parts, by their numbers.
+PARTS = ("value", "key")
+# Of helpers that are asked for bytes of a part: the registers of the part, or which it is, of the place and of the count, and between
+# which answers the bytes are there.
+TOLD = {1: ("value", 2, 3, 0, 0), 2: ("key", 2, 3, 0, 0), LOAD_PART: (4, 2, 3, 0, 0), FIND: (1, 2, 4, 1, M64), EQUALS: (1, 2, 4, 1, M64),
+        DECIMAL: (1, 2, 3, 1, M64)}
 
 
 class Bytes(NamedTuple):
@@ -50,7 +57,11 @@ class Calls(Memory):
             self.emit(Goto(end))
             self.start(end)
         self.clobber(s)
-        self.set(s, 0, number(0, most))
+        answer = number(0, most)
+        self.set(s, 0, answer)
+        told = told_by(helper, answer, {r: it.value for r, it in given.items()})
+        if told:
+            s.note("answers", answer.terms, told)
 
     def empty_room(self, helper, given):
         """Nothing is copied to room of no bytes: the call is left out then, and goes on at the label that is given back."""
@@ -86,8 +97,40 @@ class Calls(Memory):
 
     def write_call(self, s: State, helper, given, copies=None):
         """Writes a call, with what it is given, and where bytes that it reads were copied to, if they were."""
+        register = self.wide_place(helper, given)
+        if register:
+            self.write_halves(s, helper, given, copies, register)
+        else:
+            self.write_one_call(s, helper, given, copies or {})
+        for a, n in HELPERS[helper][2]:
+            v, count = given[a].value, given[n].value
+            lo, hi = span(v, 0, count.hi)
+            s.forget(lo, hi)
+            s.mark(lo, hi, None, v.is_const() and count.is_const())
+
+    def wide_place(self, helper, given):
+        """The register of a place on the stack that is one of so many that the verifier can't see that a part from there on is inside the
+        stack, which it is. None where there is none, or where it takes too many calls with fewer places each."""
+        for a, n in HELPERS[helper][1] + HELPERS[helper][2]:
+            v, (least, most), (low, high) = given[a].value, unsigned(given[n].value), signed(given[a].value)
+            if v.region == "stack" and low >= 0 and least < most and high + min(most, self.used - low) > STACK:
+                return a if high - low < MOST_WAYS * (STACK - self.used) else None
+        return None
+
+    def write_halves(self, s: State, helper, given, copies, register):
+        """Writes a call for the nearer ones of the places, and one for the others."""
+        (v, written), others, end = given[register], self.label(), self.label()
+        low, high = signed(v)
+        middle = (low + high) // 2
+        self.emit(Test("gt", 64, written, middle, others, False))
+        for least, most, label in ((low, middle, others), (middle + 1, high, end)):
+            self.write_call(s.copy(), helper, {**given, register: Given(narrowed(v, v, least, most), written)}, copies)
+            self.emit(Goto(end))
+            self.start(label)
+
+    def write_one_call(self, s: State, helper, given, copies):
         numbers, pairs, rooms, _ = HELPERS[helper]
-        named, copies = [Bytes(pair, given[pair[0]], given[pair[1]]) for pair in pairs], copies or {}
+        named = [Bytes(pair, given[pair[0]], given[pair[1]]) for pair in pairs]
         for part in named:
             if self.must_be_copied(s, part):
                 copies[part.registers] = self.copied(s, part, len(copies), "compared" if helper == EQUALS else "emitted")
@@ -100,11 +143,6 @@ class Calls(Memory):
         for pair in rooms:
             arguments += self.room(s, Bytes(pair, given[pair[0]], given[pair[1]]))
         self.emit(Call(helper, tuple(arguments), self.name(0)))
-        for a, n in rooms:
-            v, count = given[a].value, given[n].value
-            lo, hi = span(v, 0, count.hi)
-            s.forget(lo, hi)
-            s.mark(lo, hi, None, v.is_const() and count.is_const())
 
     # ---- parts of the record
 
@@ -225,10 +263,12 @@ class Calls(Memory):
             self.emit(PointAt(to, FRAME, adds + v.lo))
             return
         last = top - certain
-        if least < most and low >= 0 and adds + high + most <= 0:
+        if least < most and low >= 0 and adds + high + certain <= 0:
             # The verifier sees that both are within the stack; that their sum is within the variable is tested here.
             self.part_end(s, part, top)
-            certain, last = most, high
+            certain, last = min(most, -adds - high), high
+        elif least < most and high > last:
+            self.fail("klog's verifier can't see that a part of a variable, at an unknown place and of an unknown length, is inside: use smaller variables")
         self.emit(Bound(count, least, certain, OUTSIDE))
         x, add, lo, hi = self.bounded(s, part.address, 0, 0, last)
         self.emit(Point(to, FRAME, x, lo, hi, adds + add))
@@ -252,6 +292,28 @@ class Calls(Memory):
         self.emit(Move(count, part.length.written, 64))
         lo, hi = span(v, 0, unsigned(part.length.value)[1])
         self.touch(max(lo, 0), min(hi, self.used))
-        least = Given(number(max(1, unsigned(part.length.value)[0]), max(1, unsigned(part.length.value)[1])), part.length.written)
-        self.stack_bytes(s, part._replace(length=least), (to, count), self.used, -STACK)
+        n = part.length.value
+        some = Given(number(max(1, unsigned(n)[0]), max(1, unsigned(n)[1]), None, n.terms, n.c), part.length.written)
+        self.stack_bytes(s, part._replace(length=some), (to, count), self.used, -STACK)
         return [to, count]
+
+
+def told_by(helper, answer, given):
+    """What the answer of a helper tells that is asked for bytes of the key or of the value, if that is known: between which answers, which
+    number it is then, or None, and pairs of numbers of which the first is at most the second then."""
+    if helper == PART_LENGTH and (region := part_of(given[1])):
+        return 2, M64, added(length(region), const(2))
+    if helper not in TOLD:
+        return None
+    part, place, count, first, last = TOLD[helper]
+    region = part_of(given[part]) if isinstance(part, int) else part
+    if region is None:
+        return None
+    if helper == FIND:
+        return first, last, None, added(given[place], const(1)), answer, added(added(answer, const(-1)), given[count]), length(region)
+    return first, last, None, added(given[place], given[count]), length(region)
+
+
+def part_of(v):
+    """The key or the value, where it is that part's number, or None."""
+    return PARTS[v.lo] if v.is_const() and v.lo < len(PARTS) else None

@@ -26,6 +26,7 @@ class Halves:
     note: Callable
     narrow: Callable
     settled: Callable
+    renamed: Callable
 
     def note_cut(self, known, of, mask):
         """A new number is the low bits of another one."""
@@ -51,6 +52,7 @@ class Halves:
 
     def resolved(self, v):
         """A number, as the one that it is cut from, where that has no more."""
+        v = self.renamed(v)
         if v.terms not in self.masks:
             return v
         of, name, mask = self.masks[v.terms]

@@ -4,7 +4,7 @@ from typing import NamedTuple
 from .code import LENGTH, OUTSIDE, Exit, Goto, Test, Variable
 from .numbers import Numbers
 from .state import State
-from .values import LIMIT, M64, MIXED, Value, low32, signed, signed32, small, unsigned
+from .values import FARTHEST, M64, MIXED, Value, low32, signed, signed32, small, unsigned
 from .writer import Given
 
 MIRRORED = {"eq": "eq", "ne": "ne", "gt": "lt", "ge": "le", "lt": "gt", "le": "ge", "set": "set", "sgt": "slt", "sge": "sle", "slt": "sgt", "sle": "sge"}
@@ -192,8 +192,12 @@ def learn(t: State, holds, test: Comparison):
             t.learn(test.w, test.v, holds == "gt")
         if holds == "ne":
             for v, w in ((test.v, test.w), (test.w, test.v)):
-                if t.gap(v, w) == 0:
+                if t.gap(v, w) == 0 or are_places(v, w) and t.least_difference(w, v) == 0:
                     t.learn(v, w, True)
+
+
+def are_places(v, w):
+    return v.terms is not None and w.terms is not None and min(v.lo, w.lo) >= 0 and max(v.hi, w.hi) <= FARTHEST
 
 
 def is_impossible(s: State, holds, test: Comparison):
@@ -207,7 +211,7 @@ def is_impossible(s: State, holds, test: Comparison):
 
 def is_above(s: State, v, w, or_equal):
     """Whether v is known to be more than w, or perhaps equal to it. Both have the bounds that they have in this state."""
-    if v.terms and w.terms and max(v.hi, w.hi) <= LIMIT["value"] and s.least_difference(v, w, v.lo - w.hi) > -or_equal:
+    if v.terms and w.terms and max(v.hi, w.hi) <= FARTHEST and s.least_difference(v, w, v.lo - w.hi) > -or_equal:
         return True
     gap = s.gap(w, v)
     return gap is not None and gap > -or_equal

@@ -1,9 +1,11 @@
 """What is known where two ways of the code meet."""
+from .branches import choices_of, tells
 from .halves import FAR, Held, joined_cuts
-from .terms import LENGTH_TERMS, has_length, parts_of, plus, sum_in, turned
-from .values import LIMIT, M64, MIXED, added, joined, made, small, summed
+from .terms import parts_of, plus, sum_in, turned
+from .values import FARTHEST, LIMIT, M32, M64, MIXED, added, const, joined, made, small, summed
 
-LENGTHS_MORE = ((), *LENGTH_TERMS.values(), *map(turned, LENGTH_TERMS.values()))
+# A number is known by at most so many others; then it gets a name of its own.
+MOST_PARTS = 4
 
 
 class Meeting:
@@ -11,20 +13,25 @@ class Meeting:
 
     def __init__(self, one, other, both):
         self.one, self.other, self.both = one, other, both
-        # Of numbers that are not the same on both ways: of their terms on both ways and the difference of their constants the new
-        # terms and the first one's constant; and those of which only they themselves have been looked for, by their shape.
-        self.related, self.waiting = {}, {}
+        # Of numbers that are not the same on both ways: of their terms that are not and the difference of their constants the new
+        # terms for these and the first one's constant.
+        self.related = {}
 
-    def state(self):
+    def state(self, origins):
         one, other, both = self.one, self.other, self.both
         both.facts, both.floors = least_of(one.facts, other.facts), least_of(one.floors, other.floors)
         both.shifts, both.quotients, both.multiples = same(one.shifts, other.shifts), same(one.quotients, other.quotients), same(one.multiples, other.multiples)
         both.complements, both.products = same(one.complements, other.complements), same(one.products, other.products)
         both.scales, both.remainders, both.masks = same(one.scales, other.scales), same(one.remainders, other.remainders), joined_cuts(one.masks, other.masks)
-        new = self._variables()
+        both.answers, both.choices = same(one.answers, other.answers), same_objects(one.choices, other.choices)
+        self._set_numbers()
+        new, telling = self._variables()
+        if telling:
+            both.choices |= choices_of(telling, (one, other), self._renamed(new), origins)
         if new:
             self._parts(new)
             self._order(new)
+            self._sums(new)
         for at, (size, mine) in one.memory.items():
             theirs = other.memory.get(at)
             if theirs and theirs.size == size:
@@ -39,18 +46,32 @@ class Meeting:
         both.words = {at: self._word(at) for at in one.words.keys() | other.words.keys()} if one.words or other.words else {}
         return both
 
+    def _set_numbers(self):
+        """A number that is set on one of the ways alone is 0 on the other."""
+        for mine, theirs in ((self.one.variables, self.other.variables), (self.other.variables, self.one.variables)):
+            theirs.update([(name, const(0)) for name, v in mine.items() if v.region is None and name not in theirs])
+
     def _variables(self):
-        """Joins the variables. The result are the names of those whose terms are others now than on the first way."""
-        theirs, variables, new = self.other.variables, self.both.variables, set()
+        """Joins the variables. The result are the names of those whose terms are others now than on the first way, and those that may
+        tell later which way was taken, with what they are on each."""
+        theirs, variables, new, telling = self.other.variables, self.both.variables, set(), []
         for name, mine in self.one.variables.items():
             v = theirs.get(name)
             if v is mine:
                 variables[name] = mine
             elif v is not None:
-                variables[name] = v = self._number(mine, v)
-                if v.terms is not None and v.terms != mine.terms:
-                    new.add(name)
-        return new
+                variables[name] = both = self._number(mine, v)
+                if both.terms is not None:
+                    if both.terms != mine.terms:
+                        new.add(name)
+                    if tells(mine, v):
+                        telling.append((both, mine, v))
+        return new, telling
+
+    def _renamed(self, new):
+        """The variables that have a new number of their own, with what they are on each way."""
+        both, sides = self.both.variables, (self.one.variables, self.other.variables)
+        return [(both[name], [side[name] for side in sides]) for name in new if len(both[name].terms) == 1 and both[name].c == 0]
 
     def _word(self, at):
         mine, theirs = self.one.words, self.other.words
@@ -60,8 +81,8 @@ class Meeting:
     # ---- a number
 
     def _number(self, mine, theirs):
-        """What is known of a number on both ways. Where it is new, so are its terms; but numbers that differ by one constant on both
-        ways still do, and so do those whose sum is one constant on both ways, or a length and a constant."""
+        """What is known of a number on both ways. Where it is new, so are its terms; but numbers that differ on both ways by the
+        same numbers and constant still do, and so do those whose sum is the same on both ways."""
         if mine is None or theirs is None:
             return None
         if mine == theirs:
@@ -69,40 +90,41 @@ class Meeting:
         if (mine.terms, mine.c) != (theirs.terms, theirs.c):
             mine, theirs = self.one.current(mine), self.other.current(theirs)
         both = joined(mine, theirs)
-        if both.region != mine.region or both.terms is None or both.terms in (mine.terms, theirs.terms):
+        if both.region != mine.region or both.terms is None:
             return both
-        key = mine.terms or (), theirs.terms or (), (mine.c - theirs.c) & M64
-        found = self._relative(key, both.terms, mine.c)
-        if found:
-            terms, c = found
-            return made((*both[:4], terms, (mine.c - c) & M64))
+        if both.terms in (mine.terms, theirs.terms):
+            for region in LIMIT:
+                if (both.terms, region) in self.one.facts or (both.terms, region) in self.other.facts:
+                    self._keep_fact(both, region, mine, theirs)
+            return both
+        base, first, second = apart(mine.terms or (), theirs.terms or ())
+        found = self._relative((first, second, (mine.c - theirs.c) & M64), plus(both.terms, turned(base)), mine.c)
+        if found and len(terms := plus(found[0], base)) <= MOST_PARTS:
+            both = made((*both[:4], terms, (mine.c - found[1]) & M64))
+            for region in LIMIT if base else ():
+                self._keep_fact(both, region, mine, theirs)
+            return both
         for region in LIMIT:
-            self.both.keep_fact(both.terms, region, (self.one.slack(mine, region), self.other.slack(theirs, region)), 0)
+            self._keep_fact(both, region, mine, theirs)
             self.both.keep_fact(turned(both.terms), region, (self.one.turned_slack(mine, region), self.other.turned_slack(theirs, region)), 0)
+        if 0 <= both.lo and both.hi <= FARTHEST:
+            # Of sums that it becomes a part of this is asked when nothing has it any more.
+            self.both.floors[turned(both.terms)] = -both.hi
         return both
 
+    def _keep_fact(self, both, region, mine, theirs):
+        """How far a number is from the record's end on both ways."""
+        self.both.keep_fact(both.terms, region, (self.one.slack(mine, region), self.other.slack(theirs, region)), small(both.c))
+
     def _relative(self, key, terms, c):
-        """The new terms and the constant of an earlier number that one differs from by a constant, or None; then it is kept with its
-        own, for those that come."""
-        shape = shape_of(key[0], key[1])
-        alike = self.waiting.get(shape)
-        if alike is None:
-            self.waiting[shape] = [(key, terms, c)]
-            return None
-        for earlier in alike:
-            self._relate(*earlier)
-        self.waiting[shape] = waiting = []
+        """The new terms and the constant of an earlier number of which what is not the same on both ways differs by a constant, or None;
+        then it is kept with its own and negated, for those that come."""
         found = self.related.get(key)
         if found is None:
-            waiting.append((key, terms, c))
+            first, second, step = key
+            self.related[key] = terms, c
+            self.related[turned(first), turned(second), -step & M64] = turned(terms), -c & M64
         return found
-
-    def _relate(self, key, terms, c):
-        """Keeps the terms of a number, of what it is negated, and of both with a length."""
-        first, second, step = key
-        for more in LENGTHS_MORE:
-            self.related.setdefault((plus(first, more), plus(second, more), step), (plus(terms, more), c))
-            self.related.setdefault((plus(turned(first), more), plus(turned(second), more), -step & M64), (plus(turned(terms), more), -c & M64))
 
     # ---- two numbers
 
@@ -137,7 +159,7 @@ class Meeting:
     def _order(self, new):
         """Of numbers of which one is not the same on both ways: how much at least the one is more than the other."""
         variables, floors = self.both.variables, self.both.floors
-        known = [(name, v) for name, v in variables.items() if v.terms is not None and 0 <= v.lo and v.hi <= LIMIT["value"]]
+        known = [(name, v) for name, v in variables.items() if v.terms is not None and 0 <= v.lo and v.hi <= FARTHEST]
         sides = []
         for side in (self.one, self.other):
             sides.append((side.variables, {name: side.ends(side.variables[name]) for name, _ in known}, side.least_difference, parts_of(side.floors)))
@@ -154,6 +176,31 @@ class Meeting:
                     terms, least = summed(p, q, -1), least - small(p.c) + small(q.c)
                     floors[terms] = max(least, floors.get(terms, least))
 
+    def _sums(self, new):
+        """Of two numbers of which one is not the same on both ways: between which bounds both are together. So is the length of a text
+        with that of what is put at its end, and a digit with what its number lacks, which is a constant for each kind of digits."""
+        one, other, floors, known = self.one, self.other, self.both.floors, []
+        for name, v in self.both.variables.items():
+            if v.terms is not None and v.region is None:
+                mine, theirs = one.settled(one.variables[name]), other.settled(other.variables[name])
+                if min(mine.lo, theirs.lo) >= 0 and max(mine.hi, theirs.hi) <= M32:
+                    known.append((name, v, mine, theirs))
+        for (_, x, *first), (_, y, *second) in pairs_with(new, known):
+            is_told = any(turned(sum_in(v.terms, w.terms)) in side.floors for side, v, w in zip((one, other), first, second))
+            if not (is_told or is_chosen_by(first, second) or is_chosen_by(second, first)):
+                continue
+            mine, theirs = one.total(first[0], second[0]), other.total(first[1], second[1])
+            terms, c, least, most = summed(x, y, 1), small(x.c) + small(y.c), min(mine.lo, theirs.lo), max(mine.hi, theirs.hi)
+            if terms and least > x.lo + y.lo:
+                floors[terms] = max(least - c, floors.get(terms, least - c))
+            if terms and most < x.hi + y.hi:
+                floors[turned(terms)] = max(c - most, floors.get(turned(terms), c - most))
+
+
+def is_chosen_by(numbers, others):
+    """Whether numbers on two ways are constants, and others say which."""
+    return all(v.is_const() for v in numbers) and others[0][1:3] != others[1][1:3]
+
 
 def pairs_with(new, known):
     """The pairs of numbers, each with its name first, of which one is new."""
@@ -163,14 +210,12 @@ def pairs_with(new, known):
             yield from [(first, second) for second in known[at:]]
 
 
-def shape_of(first, second):
-    """What is the same of two sums, their negations, and both with a length."""
-    if has_length(first):
-        first = tuple([pair for pair in first if pair[0] >= 0])
-    if has_length(second):
-        second = tuple([pair for pair in second if pair[0] >= 0])
-    leading = first or second
-    return (turned(first), turned(second)) if leading and leading[0][1] < 0 else (first, second)
+def apart(x, y):
+    """What two sums have in common, and the rest of each."""
+    common = set(x).intersection(y)
+    if not common:
+        return (), x, y
+    return tuple([pair for pair in x if pair in common]), tuple([pair for pair in x if pair not in common]), tuple([pair for pair in y if pair not in common])
 
 
 def least_of(mine, theirs):
@@ -186,3 +231,8 @@ def least_of(mine, theirs):
 def same(mine, theirs):
     """What is the same in both."""
     return mine if mine is theirs else {key: what for key, what in mine.items() if theirs.get(key) == what}
+
+
+def same_objects(mine, theirs):
+    """What is the same object in both."""
+    return mine.copy() if mine is theirs else {key: what for key, what in mine.items() if theirs.get(key) is what}

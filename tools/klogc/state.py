@@ -1,14 +1,14 @@
 """What is known at one place of the code: of each variable, of the stack's bytes, and of the record's lengths."""
 from .bounds import Bounds
+from .branches import Choice
 from .code import Variable
 from .halves import Held
 from .meeting import Meeting
-from .terms import LENGTH_TERMS, plus, turned
+from .terms import LENGTHS, plus, turned
 from .values import LIMIT, M64, MIXED, Value, number
 
-LENGTHS = frozenset(term for terms in LENGTH_TERMS.values() for term, _ in terms)
 # What is known of how numbers came about: of these nothing is forgotten while they are few.
-ORIGINS = ("shifts", "quotients", "multiples", "complements", "products", "scales", "remainders", "masks")
+ORIGINS = ("shifts", "quotients", "multiples", "complements", "products", "scales", "remainders", "masks", "answers", "choices")
 FEW_ORIGINS = 16
 
 
@@ -22,8 +22,10 @@ class State(Bounds):
     a quotient times the divisor again, `complements` of terms and a width that they are what this lacks to 2^width, `products` of which
     number they are which multiple, and `scales` with which factor and what added they are at most a region's length. `remainders` say
     of which length, with a constant added, they are the remainder by what, and `masks` of which they are the `and` or the `or` with
-    what; `grid` by what a length has which remainder. States share these last nine: who changes one puts another in its place."""
-    __slots__ = ("variables", "memory", "words", "least", "most", "sure", "facts", "floors", "grid", *ORIGINS)
+    what; `grid` by what a length has which remainder. `answers` say of a helper's answer between which numbers it tells something,
+    which number it is then, and of pairs of numbers that the first is at most the second. `choices` say of terms on which of two ways that met they are which
+    number. States share these last eleven: who changes one puts another in its place."""
+    __slots__ = ("variables", "memory", "words", "least", "most", "sure", "facts", "floors", "grid", "names", *ORIGINS)
 
     def __init__(self):
         self.variables: dict[Variable, Value] = {}
@@ -42,6 +44,9 @@ class State(Bounds):
         self.scales: dict[tuple, tuple[str, int, int]] = {}
         self.remainders: dict[tuple, tuple[str, int, int]] = {}
         self.masks: dict[tuple, tuple[Value, str, int]] = {}
+        self.answers: dict[tuple, tuple] = {}
+        self.choices: dict[tuple, Choice] = {}
+        self.names: dict[int, Value] = {}
 
     def copy(self):
         s = State.__new__(State)
@@ -49,12 +54,13 @@ class State(Bounds):
         s.least, s.most, s.sure = self.least.copy(), self.most.copy(), self.sure.copy()
         s.facts, s.floors, s.grid = self.facts.copy(), self.floors.copy(), self.grid
         s.shifts, s.quotients, s.multiples = self.shifts, self.quotients, self.multiples
-        s.complements, s.products, s.scales, s.remainders, s.masks = self.complements, self.products, self.scales, self.remainders, self.masks
+        s.complements, s.products, s.scales, s.remainders = self.complements, self.products, self.scales, self.remainders
+        s.masks, s.answers, s.choices, s.names = self.masks, self.answers, self.choices, self.names
         return s
 
     def join(self, other):
         """What is known where two ways meet."""
-        return Meeting(self, other, State()).state()
+        return Meeting(self, other, State()).state(ORIGINS)
 
     def note(self, origin, terms, what):
         """How a number came about that has these terms, or terms and a width."""
@@ -66,6 +72,7 @@ class State(Bounds):
         """Forgets variables but these, and what is known of numbers that nothing has."""
         variables, used = self.variables, set(LENGTHS)
         self.variables = kept = {name: variables[name] for name in names if name in variables}
+        self.names = {}
         for v in kept.values():
             for term, _ in v.terms or ():
                 used.add(term)
@@ -78,7 +85,7 @@ class State(Bounds):
         self.floors = {terms: k for terms, k in self.floors.items()
                        if terms[0][0] in used and terms[-1][0] in used and (len(terms) < 3 or are_used(terms, used))}
         made = len(self.shifts) + len(self.quotients) + len(self.multiples) + len(self.complements) + len(self.products)
-        if made + len(self.scales) + len(self.remainders) + len(self.masks) > FEW_ORIGINS:
+        if made + len(self.scales) + len(self.remainders) + len(self.masks) + len(self.answers) + len(self.choices) > FEW_ORIGINS:
             self._keep_origins(used)
 
     def _keep_origins(self, used):

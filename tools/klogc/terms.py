@@ -8,6 +8,7 @@ MOST_TERMS = 12
 
 Terms = tuple[tuple[int, int], ...]
 LENGTH_TERMS: dict[str, Terms] = {"value": ((VALUE_LENGTH, 1),), "key": ((KEY_LENGTH, 1),)}
+LENGTHS = frozenset([VALUE_LENGTH, KEY_LENGTH])
 REGION_OF = {terms: region for region, terms in LENGTH_TERMS.items()}
 
 

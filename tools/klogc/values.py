@@ -12,6 +12,8 @@ from .terms import LENGTH_TERMS, MOST_TERMS, Terms, fresh, plus, region_of, turn
 M64 = (1 << 64) - 1
 M32 = (1 << 32) - 1
 LIMIT = {"key": 4096, "value": 1048576}
+# Places in the record, and sums of a few, are at most this; differences of such numbers are known.
+FARTHEST = 4 * LIMIT["value"]
 
 # A region: "value", "key" or "stack"; ("constants", section); ("minus", region) of a negated address; MIXED of one of several.
 MIXED = "mixed"
@@ -140,6 +142,9 @@ def added(a, b, sign=1):
     both = a.mask | b.mask
     zeros = M64 & -(both & -both) if both else M64  # the low bits that are 0 in both are 0 in the sum
     terms, c = summed(a, b, sign), (a.c + sign * b.c) & M64
+    if lo == hi and terms:
+        # It is known in whole, and keeps its terms, which others have.
+        return made((None, lo & M64, lo & M64, lo & M64, terms, c))
     return number(lo, hi, zeros, terms, c) if terms else const(c)
 
 

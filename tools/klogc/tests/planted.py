@@ -13,9 +13,9 @@ from typing import Callable, NamedTuple
 if __name__ == "__main__":
     sys.path[0] = os.path.dirname(os.path.dirname(os.path.dirname(os.path.realpath(__file__))))
 
-from klogc import bounds, calls, choice, code, halves, jumps, layout, library, memory, numbers, places, program, state, values, ways
+from klogc import bounds, branches, calls, choice, code, halves, jumps, layout, library, meeting, memory, numbers, places, program, state, values, ways
 from klogc.compiler import Compiler
-from klogc.program import Refused
+from klogc.program import Program, Refused
 from klogc.tests.compare import compared, object_of
 
 PROGRAMS_IN_ONE = 25
@@ -73,6 +73,11 @@ FAULTS = [
     Fault("a length is odd that is even", bounds.Bounds, "divide_length", lambda old: lambda self, region, c, divisor, remainder: old(self, region, c, divisor, remainder + 1)),
     Fault("low bits are read as the whole", halves.Halves, "signed_whole", lambda old: lambda self, v, bits: old(self, v, bits) or self.whole(v, (1 << bits) - 1)),
     Fault("low bits say one less of the whole", halves.Halves, "narrow_masked", lambda old: lambda self, v, lo, hi: old(self, v, lo, max(lo, hi - 1))),
+    Fault("the other way was taken", branches, "meets", lambda old: lambda v, lo, hi: not old(v, lo, hi)),
+    Fault("a way's numbers are one more", branches, "put_in", lambda old: lambda terms, term, v: (old(terms, term, v)[0], old(terms, term, v)[1] + 1)),
+    Fault("two numbers are less together", meeting, "added", lambda old: lambda a, b, sign=1: old(a, b, sign)._replace(hi=max(old(a, b, sign).lo, old(a, b, sign).hi - 2))),
+    Fault("sums that differ have all in common", meeting, "apart", lambda old: lambda x, y: (old(x, y)[0], (), ())),
+    Fault("helpers that find nothing tell as much", calls, "told_by", lambda old: lambda helper, answer, given: (told := old(helper, answer, given)) and (0, *told[1:])),
     Fault("a test is left out where it is read", layout, "view", lambda old: lambda data, table: old(data, table)._replace(never=some_test(data))),
 ]
 
@@ -124,10 +129,11 @@ def found(objects, seed, count):
     """How many programs it takes to find what is planted, and how it shows; or None."""
     tried = 0
     for number, data in enumerate(objects):
+        first = Program(data, "program0")
         for k in range(PROGRAMS_IN_ONE):
             tried += 1
             try:
-                _, text = compared(data, f"program{k}", f"{seed + number} {k}", count)
+                _, text = compared(first.beside(f"program{k}"), f"{seed + number} {k}", count)
             except Refused as fault:
                 text = str(fault) if "does not follow" in str(fault) else None
             except Exception as fault:  # an error of the pass itself, which is what is looked for

@@ -2,7 +2,7 @@
 functions that call functions, numbers of 8 to 64 bits, signed and not, and more of them at hand than there are registers."""
 import random
 
-HEAD = """#include "klog.h"
+HEAD = """#include "klog_parts.h"
 #include <string.h>
 struct row { u8 kind; u16 low; u32 high; u64 sum; signed char sign; };
 static const u16 table[16] = { %s };
@@ -174,7 +174,7 @@ class Maker:
         if self.depth <= self.deepest:
             makers += [self.changed_places, self.local, self.tested, self.tested, self.ordered]
             makers += [self.choice, self.choice, self.counted, self.ended, self.pointed, self.backward, self.switch, self.called, self.copied, self.chosen, self.compared, self.compared_part,
-                       self.emitted, self.loaded]
+                       self.emitted, self.loaded, self.searched, self.flagged]
         try:
             return r.choice(makers)()
         finally:
@@ -372,6 +372,40 @@ class Maker:
             case 4:
                 return f"{{ u64 {n} = {self.variable()} & 7; if ({n} <= value_length && value_length - {n} >= key_length && memcmp(key, value + {n}, key_length) {test}) {v} -= 77; }}"
         return f"{{ u64 {n} = {self.variable()} & 15; {v} += memcmp({region} + {n}, \"{text}\", {length}) {test}; }}"
+
+    def searched(self):
+        """What a helper says of a part of the record, and the bytes that are there then."""
+        r, v, n, end = self.r, self.variable(), self.index("n"), self.index("m")
+        part, region = r.choice((("VALUE", "value"), ("KEY", "key")))
+        text, length = r.choice(PIECES)
+        size, place = r.randrange(1, 9), f"u64 {n} = {self.variable()} & {r.choice((3, 7, 31))};"
+        match r.randrange(7):
+            case 0:
+                return f"{{ u64 {n} = find({part}, {self.variable()} & 15, \"{text}\", {length}); if ({n}) {v} += {region}[{n} - 1 + {r.randrange(length)}] + {n}; }}"
+            case 1 | 2:
+                return (f"{{ u64 {n} = find({part}, 0, \"{text}\", {length}), {end} = {n} ? find({part}, {n}, \"1\", 1) : 0; if ({end} == 0) {end} = {region}_length;"
+                        f" if ({n}) for (u64 i = {n}; i < {end} && i < {n} + {size}; i++) {v} = {v} * 3 + {region}[i]; }}")
+            case 3:
+                return f"{{ {place} if (equals({part}, {n}, \"{text}\", {length})) {v} += {region}[{n} + {r.randrange(length)}]; }}"
+            case 4:
+                return f"if (part_length({part}) >= {size + 2}) {v} ^= {region}[{size - 1}] + {region}[part_length({part}) - 3];"
+            case 5:
+                return f"{{ {place} if (decimal({part}, {n}, {size})) {v} += {region}[{n} + {r.randrange(size)}]; }}"
+        return f"{{ {place} if (!load_part(buf, {n}, {size}, {part})) {v} += {region}[{n} + {r.randrange(size)}]; }}"
+
+    def flagged(self):
+        """A flag, or a result that may be -1, is tested after the ways on which it was set have met."""
+        r, v, n, end = self.r, self.variable(), self.index("n"), self.index("m")
+        region = r.choice(("value", "key"))
+        match r.randrange(3):
+            case 0:
+                return (f"{{ u64 {n} = {self.narrow()}; int {end} = {n} + {r.randrange(3)} < {region}_length; {self.statements(1)}"
+                        f" if ({end}) {v} += {region}[{n}]; else {v} ^= {n}; }}")
+            case 1:
+                return (f"{{ int {n} = -1; for (u64 i = 0; i < {region}_length && i < 7; i++) if ({region}[i] == ({self.variable()} & 127)) {{ {n} = i; break; }}"
+                        f" {self.statements(1)} if ({n} >= 0) {v} += {region}[{n}] + {n}; }}")
+        return (f"{{ const u8 *{n} = 0; int {end} = 0; if ({self.condition()} && {region}_length >= 4) {{ {n} = {region} + 1; {end} = 3; }}"
+                f" {self.statements(1)} if ({n}) for (int i = 0; i < {end}; i++) {v} += {n}[i]; }}")
 
     def emitted(self):
         match self.r.randrange(5):
