@@ -4,7 +4,7 @@ the other but for a constant."""
 from typing import Callable, NamedTuple
 
 from .code import Variable
-from .values import M32, M64, Value, added, const, joined, made, number, small
+from .values import M32, M64, Value, added, const, joined, low32, made, number, small
 
 FAR, HALF = 1 << 62, 1 << 63
 
@@ -32,6 +32,14 @@ class Halves:
         """A new number is the low bits of another one."""
         if known.terms and known.c == 0 and of.terms and known.terms != of.terms and of.region is None and of.hi - of.lo <= 2 * mask:
             self.note("masks", known.terms, (of, "and", mask))
+
+    def low_half(self, known, of):
+        """What is known of a new number that is the low 32 bits of another, where nothing is known of it by itself."""
+        if (known.lo, known.hi) != (0, M32):
+            return known
+        low = low32(of)
+        self.note_cut(low, of, M32)
+        return low
 
     def whole(self, v, mask=M32):
         """A number that has the same low bits: the one that v is cut from, if that is known, else v."""

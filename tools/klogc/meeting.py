@@ -110,6 +110,8 @@ class Meeting:
         if 0 <= both.lo and both.hi <= FARTHEST:
             # Of sums that it becomes a part of this is asked when nothing has it any more.
             self.both.floors[turned(both.terms)] = -both.hi
+        if (self.one.masks or self.other.masks) and 0 <= both.lo and both.hi <= M32:
+            self.both.note_cut(both, joined(self.one.whole(mine), self.other.whole(theirs)), M32)
         return both
 
     def _keep_fact(self, both, region, mine, theirs):

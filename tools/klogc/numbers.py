@@ -4,7 +4,7 @@ from .halves import is_low
 from .program import INTRINSICS
 from .state import State
 from .terms import region_of
-from .values import LIMIT, M32, M64, MIXED, added, changed, const, low32, number, quotient32, result, signed, signed32, small, unsigned
+from .values import LIMIT, M32, M64, MIXED, added, changed, const, low32, number, result, signed, signed32, signed_quotient, small, unsigned
 from .writer import Given, Writer
 
 MANY_TERMS = 4
@@ -39,6 +39,8 @@ class Numbers(Writer):
         known = changed(change, v)
         if change[0] == "movsx" and change[1] == 64:
             known = s.signed_whole(v, change[2]) or known
+        elif change == ("neg", 32):
+            known = s.low_half(known, added(const(0), s.whole(v), -1))
         if known.is_const():
             self.define(s, dst, known, known.lo)
         elif change[0] == "movsx" and known == v:
@@ -131,8 +133,10 @@ class Numbers(Writer):
             v, w = low32(v), low32(w)
         known = result(name, width, v, w)
         if width == 32:
-            known = quotient32(name, v, w, known)
             a, b = (v.lo if v.is_const() else a), (w.lo if w.is_const() else b)
+        if width == 32 and w.lo == w.hi != 0 and not known.is_const():
+            of = signed_quotient(name, signed32(s.signed_whole(v, 32) or v), signed32(w)[0])
+            known = of if of.lo >= 0 and of.hi <= M32 else s.low_half(known, of)
         self.clobber(s)
         self.emit(Alu(name, width, self.name(0), a, b))
         self.set(s, 0, known)
@@ -146,8 +150,10 @@ class Numbers(Writer):
 def related(s: State, name, width, operands, known):
     """What is known of a result by how its operands came about."""
     v, w = operands
-    if width == 32 and name in ("add", "sub") and known.lo == 0 and known.hi == M32:
-        s.note_cut(known, added(s.whole(v), const(signed32(w)[0]) if w.is_const() else s.whole(w), 1 if name == "add" else -1), M32)
+    if width == 32 and name in ("add", "sub"):
+        known = s.low_half(known, added(*[const(signed32(n)[0]) if n.is_const() else s.whole(n) for n in operands], 1 if name == "add" else -1))
+    elif width == 32 and w.is_const() and name in ("mul", "lsh"):
+        known = s.low_half(known, times(s.whole(v), signed32(w)[0] if name == "mul" else power(w, width).lo))
     if width == 32 and (low32(v) != v or low32(w) != w):
         return known
     if width == 32 and name == "sub" and known.lo == 0:
@@ -184,6 +190,11 @@ def related(s: State, name, width, operands, known):
     if v.length_region() and v.lo >= 0 and known.terms is not None and known.c == 0 and divisor and (name == "mod" or divisor & w.lo == 0):
         s.note("remainders", known.terms, (v.length_region(), small(v.c), divisor))
     return known
+
+
+def times(v, factor):
+    """A multiple of a number."""
+    return number(*sorted((v.lo * factor, v.hi * factor)))
 
 
 def power(count, width):

@@ -248,14 +248,13 @@ def changed(change, a):
     return number(-half, half - 1) if width == 64 else number(0, M32)
 
 
-def quotient32(name, a, b, known):
-    """A signed quotient or remainder of 32 bits by a constant, where the result's interval is better than `known`."""
-    if not b.is_const() or not b.lo or known.is_const():
-        return known
-    (lo, hi), k = signed32(a), b.lo - (1 << 32) if b.lo >> 31 else b.lo
-    if lo < 0 or k <= 0:
-        return known
-    return number(lo // k, hi // k) if name == "sdiv" else number(0, k - 1)
+def signed_quotient(name, ends, divisor):
+    """What is known of a signed quotient or remainder of a number between two ends by a constant, which is rounded towards zero."""
+    (lo, hi), most = ends, abs(divisor) - 1
+    if name == "smod":
+        return number(max(lo, -most) if lo < 0 else 0, min(hi, most) if hi > 0 else 0)
+    ends = [abs(end) // abs(divisor) * (1 if (end < 0) == (divisor < 0) else -1) for end in ends]
+    return number(min(ends), max(ends))
 
 
 def joined(a, b):

@@ -78,6 +78,8 @@ FAULTS = [
     Fault("two numbers are less together", meeting, "added", lambda old: lambda a, b, sign=1: old(a, b, sign)._replace(hi=max(old(a, b, sign).lo, old(a, b, sign).hi - 2))),
     Fault("sums that differ have all in common", meeting, "apart", lambda old: lambda x, y: (old(x, y)[0], (), ())),
     Fault("helpers that find nothing tell as much", calls, "told_by", lambda old: lambda helper, answer, given: (told := old(helper, answer, given)) and (0, *told[1:])),
+    Fault("a negated number keeps its sign", halves.Halves, "low_half", lambda old: lambda self, known, of: old(self, known, of if of.lo >= 0 else of._replace(lo=0, hi=max(-of.lo, of.hi)))),
+    Fault("a signed quotient has no sign", values, "signed_quotient", lambda old: lambda name, ends, divisor: old(name, (max(ends[0], 0), max(ends[1], 0)), abs(divisor))),
     Fault("a test is left out where it is read", layout, "view", lambda old: lambda data, table: old(data, table)._replace(never=some_test(data))),
 ]
 

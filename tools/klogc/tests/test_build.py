@@ -82,6 +82,9 @@ ACCEPTED = [
     ("table_of_both", "\tstatic const struct { const char *text; u64 length, answer; } rows[] = {{\"order-\", 6, 1}, {\"user-\", 5, 2}, {\"log-\", 4, 3}};\n\tfor (int i = 0; i < 3; i++)\n\t\tif (key_length >= rows[i].length && !memcmp(key, rows[i].text, rows[i].length))\n\t\t\treturn rows[i].answer;\n\treturn 4;",
      [(Record(b"order-1", b""), 1), (Record(b"user-", b""), 2), (Record(b"log-", b""), 3), (Record(b"log", b""), 4)]),
     ("texts_by_index", '\tstatic const char *const names[] = {"Sunday", "Monday", "Tuesday"};\n\tconst char *name = names[value_length % 3];\n\treturn emit_value(0, name, strlen(name));', [(Record(b"k", b""), [Emission(0, b"k", b"Sunday")]), (Record(b"k", b"ab"), [Emission(0, b"k", b"Tuesday")])]),
+    ("below_zero", "\tint n = 0, at = 8;\n\tu8 text[8] = {0};\n\tif (value_length > 4)\n\t\treturn 1;\n\tfor (u64 i = 0; i < value_length; i++) {\n\t\tif (value[i] < '0' || value[i] > '9')\n\t\t\treturn 2;\n\t\tn = n * 10 + value[i] - '0';\n\t}"
+     "\n\tif (key_length)\n\t\tn = -n;\n\tn = n * 9 / 5 + 32;\n\tint rest = n < 0 ? -n : n;\n\tdo {\n\t\ttext[--at] = '0' + rest % 10;\n\t\trest /= 10;\n\t} while (rest);\n\tif (n < 0)\n\t\ttext[--at] = '-';\n\treturn emit_value(0, text, 8);",
+     [(Record(b"", b"33"), [Emission(0, b"", bytes(6) + b"91")]), (Record(b"k", b"33"), [Emission(0, b"k", bytes(5) + b"-27")]), (Record(b"k", b"17"), [Emission(0, b"k", bytes(7) + b"2")]), (Record(b"k", b"9999"), [Emission(0, b"k", bytes(2) + b"-17966")]), (Record(b"k", b"3x"), 2)]),
     ("no_bytes", "\tu64 row[2] = {value_length, 7};\n\treturn emit_value(0, (u8 *)row + 4, 0);", [(Record(b"k", b"ab"), [Emission(0, b"k", b"")])]),
     ("no_room", "\tu8 to[4] = {0};\n\treturn 5 + load_value(to, 3, value_length & 0);", [(Record(b"k", b"ab"), 6), (Record(b"k", b"abc"), 5)]),
 ]

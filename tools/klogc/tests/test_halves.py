@@ -3,11 +3,14 @@ are led on need nothing of what they led over."""
 import random
 import unittest
 
+from second_machine import computed
+
 from klogc.code import register
 from klogc.layout import shortened
+from klogc.numbers import times
 from klogc.places import EXIT, JUMP, MOVE, Item
 from klogc.state import State
-from klogc.values import M64, number
+from klogc.values import M32, M64, number, signed_quotient
 
 MASKS = (1, 7, 255, 65535, (1 << 32) - 1)
 WHOLE, CUT = register(1), register(2)
@@ -44,6 +47,22 @@ class Halves(unittest.TestCase):
                 self.assertTrue(holds(s.variables[CUT], low), (before, mask, n, lo, hi))
                 closer += s.variables[WHOLE].hi - s.variables[WHOLE].lo < before.hi - before.lo
         self.assertGreater(closer, 1000)
+
+    def test_signed_operations(self):
+        """What is known of the low 32 bits of a multiple, a quotient and a remainder holds, and of the number that they are of."""
+        cut = 0
+        for _ in range(4000):
+            lo = self.r.choice((0, 3, -1, -65, -9999, -(1 << 31)))
+            hi = min(lo + self.r.choice((0, 1, 25, 64, 20000, 1 << 31)), (1 << 31) - 1)
+            n, k, name, s = self.r.randint(lo, hi), self.r.choice((1, 3, 10, -1, -7, 1 << 30)), self.r.choice(("mul", "sdiv", "smod")), State()
+            of = times(number(lo, hi), k) if name == "mul" else signed_quotient(name, (lo, hi), k)
+            known, is_it = s.low_half(number(0, M32), of), computed(32, name, n & M32, k & M32)
+            self.assertTrue(holds(known, is_it), (name, lo, hi, n, k, known))
+            whole = s.signed_whole(known, 32)
+            if whole is not None:
+                self.assertTrue(holds(whole, is_it - (is_it >> 31 << 32) & M64), (name, lo, hi, n, k, whole))
+                cut += whole.hi - whole.lo < M32
+        self.assertGreater(cut, 2000)
 
     def test_the_number_says_something_of_its_low_bits(self):
         joined = 0
