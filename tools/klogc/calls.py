@@ -5,7 +5,7 @@ from second_machine import HELPERS
 
 from .code import BASE, FRAME, LENGTH, OUTSIDE, ROOM, Alu, Bound, Call, Goto, Move, Point, PointAt, Test, Variable
 from .halves import narrowed
-from .memory import MOST_WAYS, Memory, bytes_text, span
+from .memory import Memory, bytes_text, span
 from .program import STACK
 from .state import State
 from .terms import LENGTH_TERMS
@@ -20,6 +20,8 @@ PARTS = ("value", "key")
 # which answers the bytes are there.
 TOLD = {1: ("value", 2, 3, 0, 0), 2: ("key", 2, 3, 0, 0), LOAD_PART: (4, 2, 3, 0, 0), FIND: (1, 2, 4, 1, M64), EQUALS: (1, 2, 4, 1, M64),
         DECIMAL: (1, 2, 3, 1, M64)}
+# A part of a variable at an unknown place is passed on by so many calls at most, each with fewer places.
+MOST_CALLS = 8
 
 
 class Bytes(NamedTuple):
@@ -114,7 +116,7 @@ class Calls(Memory):
         for a, n in HELPERS[helper][1] + HELPERS[helper][2]:
             v, (least, most), (low, high) = given[a].value, unsigned(given[n].value), signed(given[a].value)
             if v.region == "stack" and low >= 0 and least < most and high + min(most, self.used - low) > STACK:
-                return a if high - low < MOST_WAYS * (STACK - self.used) else None
+                return a if high - low < MOST_CALLS * (STACK - self.used) else None
         return None
 
     def write_halves(self, s: State, helper, given, copies, register):

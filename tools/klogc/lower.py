@@ -15,6 +15,8 @@ from .writer import Learned, Settings, TooLong
 MOST_RUNS, MOST_TRIES, MOST_FILLS = 200, 40, 4
 ROUNDS = 64
 FEW_SLOTS = 2048
+# How many ways are apart, one after the other, until a program is accepted.
+WAYS = (0, 8, 32)
 LARGEST_TABLE = max(machine.TABLES)
 
 
@@ -47,16 +49,15 @@ def lower(program: Program, rounds=ROUNDS, strict=True, slots=SLOTS) -> Lowered:
     """Lowers a program. Loops are copied round by round until their end is proved; where that has no end, or takes more slots
     than an image has, the loops with the most rounds get `rounds`, and then fewer. A program that is refused is tried with more copies,
     and then with loops as one with those in them, but with few slots alone."""
-    try:
-        return lowered(program, rounds, strict, slots, False)
-    except Refused:
+    for ways in WAYS:
         try:
-            return lowered(program, rounds, strict, slots, True)
-        except Refused as refusal:
-            made = flattened(program, strict, slots)
-            if made is None:
-                raise refusal
-            return made
+            return lowered(program, rounds, strict, slots, ways)
+        except Refused as fault:
+            refusal = fault
+    made = flattened(program, strict, slots)
+    if made is None:
+        raise refusal
+    return made
 
 
 def has_nested_loops(program):
@@ -68,25 +69,25 @@ def flattened(program, strict, slots):
     if not has_nested_loops(program):
         return None
     try:
-        lowering, image = tried(program, Settings({}, min(FEW_SLOTS, slots), strict, True, False), Learned())
+        lowering, image = tried(program, Settings({}, min(FEW_SLOTS, slots), strict, True, 0), Learned())
     except Refused:
         return None
     return report(lowering, image) if image else None
 
 
-def lowered(program, rounds, strict, slots, fine) -> Lowered:
+def lowered(program, rounds, strict, slots, ways) -> Lowered:
     """Lowers a program, perhaps with the ways apart on which a variable is another text, or -1.
 
     Of a loop in a loop the copies are many, and few where both are one; but then less is known of where each of them is. So both
     forms are tried, with few slots first, and without ways apart."""
     learned = {False: Learned()}
-    if not fine and has_nested_loops(program):
+    if not ways and has_nested_loops(program):
         learned[True] = Learned()
     stopped = {}
     for most in sorted({min(FEW_SLOTS, slots), slots}):
         for flat in sorted(learned):
             try:
-                lowering, image = tried(program, Settings({}, most, strict, flat, fine), learned[flat], stopped.get(flat))
+                lowering, image = tried(program, Settings({}, most, strict, flat, ways), learned[flat], stopped.get(flat))
             except Refused:
                 if not flat:
                     raise

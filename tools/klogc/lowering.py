@@ -14,8 +14,6 @@ from .writer import Ended, TooLong
 
 ABSENT = (M32, M64)
 KEY_LENGTH = LENGTH_TERMS["key"]
-# The copies of a block in one round for which it matters which text a variable is.
-MOST_COPIES = 8
 
 
 class Copy:
@@ -91,8 +89,8 @@ class Lowering(Library):
         if place not in self.read:
             self.read[place] = [register(r) if isinstance(r, int) else register(r[1], self.copies[r[0]]) for r in self.live[place]]
         s.keep(self.read[place] + [name for name in s.variables if name[0] == "slot"])
-        copy = self.copy_of(place, rounds, s, fine_kind if self.settings.fine else kind)
-        if self.settings.fine and copy not in self.waiting and self.copies_of[place, rounds] >= MOST_COPIES:
+        copy = self.copy_of(place, rounds, s, fine_kind if self.settings.ways else kind)
+        if copy not in self.waiting and self.copies_of[place, rounds] >= self.settings.ways > 0:
             copy = self.copy_of(place, rounds, s, kind)
         if copy in self.waiting:
             self.waiting[copy].append(s)

@@ -111,7 +111,9 @@ class Meeting:
             # Of sums that it becomes a part of this is asked when nothing has it any more.
             self.both.floors[turned(both.terms)] = -both.hi
         if (self.one.masks or self.other.masks) and 0 <= both.lo and both.hi <= M32:
-            self.both.note_cut(both, joined(self.one.whole(mine), self.other.whole(theirs)), M32)
+            of = joined(self.one.whole(mine), self.other.whole(theirs))
+            if of.lo < 0:
+                self.both.note_cut(both, of, M32)
         return both
 
     def _keep_fact(self, both, region, mine, theirs):

@@ -8,7 +8,6 @@ from .values import M64, MIXED, Value, changed, const, low32, number, signed, sm
 from .writer import Given, region_text
 
 FAR_OFFSET = 32000
-MOST_WAYS = 8
 
 
 def span(v, offset, size):
@@ -195,7 +194,7 @@ class Memory(Jumps):
         places = self.places_of(s, given.value, offset, lo, hi - size)
         inside = [at for at in (addresses if places is None else places) if at in addresses and lo <= at <= hi - size]
         if inside and size == 8:
-            if self.settings.fine and places is not None and len(inside) == len(places) <= MOST_WAYS:
+            if places is not None and len(inside) == len(places) <= self.settings.ways:
                 self.fork(s, dst, given, {at - offset: addresses[at] for at in inside})
                 return
             known = self.one_of([addresses[at] for at in inside]) if places is None or len(inside) == len(places) else number(0, M64, region=MIXED)

@@ -19,13 +19,13 @@ class Ended(Exception):
 
 class Settings(NamedTuple):
     """How many rounds of which loops are copied, by their heads, if not all; how many slots there may be; whether a program is
-    refused that may read outside its bytes, or has a test for it; whether loops are one with those in them (Program.order); and whether
-    ways are apart on which a variable is another text, or -1."""
+    refused that may read outside its bytes, or has a test for it; whether loops are one with those in them (Program.order); and how many
+    ways are apart at most on which a variable is another text, or -1."""
     rounds: dict
     slots: int
     strict: bool
     flat: bool
-    fine: bool
+    ways: int
 
 
 @dataclasses.dataclass
