@@ -24,7 +24,7 @@ from klogc.program import Program, Refused
 import second_machine
 
 TOP = os.path.dirname(os.path.dirname(os.path.dirname(os.path.dirname(os.path.realpath(__file__)))))
-FOLDERS = [os.path.join(TOP, "examples", "c", name) for name in ("transforms", "tried", "natural", "unseen", "parts")]
+FOLDERS = [os.path.join(TOP, "examples", "c", name) for name in ("transforms", "tried", "natural", "unseen", "blind", "parts")]
 LEVELS, MACHINES = ("-O2", "-O1", "-Os"), ("v3", "v1", "v2", "v4")
 # Clang has v4 from this version on.
 WITH_V4 = 18
