@@ -89,7 +89,7 @@ pub fn is_row(row: &BookRow, offset: u64, number: usize, value: u8) -> bool
 
 /// Whether the row's key is `k` and its value one byte.
 fn holds(row: &RowRef, value: u8) -> bool {
-    match (row.key, row.value) {
+    match (row.key(), row.value()) {
         (Some(key), Some(bytes)) => key == b"k".as_slice() && bytes == [value].as_slice(),
         _ => false,
     }

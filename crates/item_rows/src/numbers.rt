@@ -11,7 +11,7 @@ ghost use Rattle.item_rows.specs.RowParts.{row_by, whole};
 use bytes::Bytes;
 use kafka_record::{HeadersRef, NullableBytes, RecordRef};
 use log_item::Excerpt;
-use log_spec::{Row, RowRef};
+use log_spec::{Row, RowParts, RowRef};
 use machine_spec::Place;
 use wire_spec::Headers;
 
@@ -50,10 +50,7 @@ impl RowNumbers {
             number: self.number,
             offset: self.offset,
             timestamp: self.timestamp,
-            key: given.key().as_slice(),
-            value: given.value().as_slice(),
-            headers: given.headers(),
-            parts: given.parts(),
+            parts: RowParts::Record(given.again()),
         }
     }
 
@@ -86,10 +83,11 @@ impl RowNumbers {
             number: self.number,
             offset: self.offset,
             timestamp: self.timestamp,
-            key: key.as_slice(),
-            value: value.as_slice(),
-            headers,
-            parts: None,
+            parts: RowParts::Apart {
+                key,
+                value,
+                headers,
+            },
         }
     }
 

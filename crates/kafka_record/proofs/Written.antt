@@ -1,5 +1,5 @@
 -- Bytes that were written at the end, one part after the other.
-use Rattle.std.proofs.Common.{◌≡◌, ℕ, ◌+◌, ◌≤◌, List, ◌∷◌, ◌++◌, length, take, refl, sym, ap, ◌∙◌, append_assoc, arith}
+use Rattle.std.proofs.Common.{◌≡◌, ℕ, ◌+◌, ◌≤◌, List, [], ◌∷◌, ◌++◌, length, take, refl, sym, ap, ◌∙◌, append_assoc, arith}
 use Rattle.std.proofs.Common.{ℤ, pos}
 use Rattle.std.specs.List.{flat_map}
 use Rattle.std.proofs.lemmas.List.{take_at, take-take, take_all, length-take, length-append}
@@ -47,6 +47,26 @@ spelled_is time time' delta delta' t d old a b new parts same_time same_delta t_
     ++ parts =
     cc in
     row ∙ rw (long, same_time, same_delta) (simp append_assoc)
+
+-- how many bytes it takes
+pub spelled_size : (time time' delta delta' : ℤ) (t d : ℕ) (parts : List ℕ) → time' ≡ time → delta' ≡ delta →
+    t ≡ length (varlong time') → d ≡ length (varint delta') →
+    length (varint (pos (1 + t + d + length parts))) + (1 + t + d + length parts)
+    ≡ length (spelling_with time parts delta)
+spelled_size time time' delta delta' t d parts same_time same_delta t_is d_is =
+    let bytes = varint (pos (1 + t + d + length parts)) in
+    let is : spelling_with time parts delta ≡ (bytes ++ 0 ∷ (varlong time' ++ varint delta')) ++ parts =
+    sym (spelled_is time time' delta delta' t d [] bytes (bytes ++ 0 ∷ (varlong time' ++ varint delta'))
+    ((bytes ++ 0 ∷ (varlong time' ++ varint delta')) ++ parts) parts same_time same_delta t_is d_is refl refl refl) in
+    omega (
+      arith,
+      ap length is,
+      t_is,
+      d_is,
+      length-append (bytes ++ 0 ∷ (varlong time' ++ varint delta')) parts,
+      length-append bytes (0 ∷ (varlong time' ++ varint delta')),
+      length-append (varlong time') (varint delta'),
+    )
 
 -- the sum of their lengths
 pub length_is : (delta : ℤ) (r : Record) (t d k v n h : ℕ) → t ≡ length (varlong r.timestamp_delta) →

@@ -12,7 +12,8 @@ use wire_spec::{
 };
 
 /// How many bytes a length takes, and what it is the length of.
-fn string_len(len: usize) -> usize
+#[inline(always)]
+pub(crate) fn string_len(len: usize) -> usize
     requires { len < 2 ^ 31 }
     ensures size { result ≡ length (varint (pos len)) + len }
     ensures small { result ≤ 5 + len }

@@ -1,16 +1,16 @@
-ghost use Rattle.std.specs.Prelude.{◌≡◌, ◌+◌, ◌^◌, ◌<◌, ◌≤◌, ℤ, pos, ◌∷◌, [], ◌++◌, length, All, IfSome, OnOk, OnErr};
+ghost use Rattle.std.specs.Prelude.{◌≡◌, ◌+◌, ◌^◌, ◌<◌, ◌≤◌, ℤ, pos, ◌∷◌, [], ◌++◌, length, vec_len, vec_capacity, All, IfOk, IfSome, OnOk, OnErr};
 ghost use Rattle.std.specs.List.{flat_map};
 ghost use Rattle.wire_spec.specs.Varint.{varint, varlong};
 ghost use Rattle.wire_spec.specs.RecordSpelling.{HeaderFits, RecordFits, string, nullable, header, record_body, record_spelling};
 ghost use Rattle.kafka_record.specs.Keeps.{Keeps};
 ghost use Rattle.wire_spec.specs.declared.limits.TheConstants.{MAX_BODY_SIZE};
-ghost use Rattle.kafka_record.specs.Parts.{record_with, spelling_with};
+ghost use Rattle.kafka_record.specs.Parts.{record_with, spelling_with, WritesWithin};
 
 use crate::headers::{HeadersIn, HeadersRef, spelled_bytes};
 use crate::nullable::NullableBytes;
-use crate::sizes::body_len;
+use crate::sizes::{body_len, string_len};
 use std::alloc::AllocError;
-use varint::{len32, len64, write32, write64};
+use varint::{len32, len64, push32, push64, write32, write64};
 use wire_spec::{Header, MAX_BODY_SIZE, Record};
 
 /// Writes a length, of less than 2^31.
@@ -174,45 +174,56 @@ pub fn write_parts(
     }
 }
 
-/// Writes a record after its length, which is of less than 2^31 bytes.
+/// Writes a length at the end, where there is room for it.
 #[inline(always)]
-fn put_spelled(
-    timestamp_delta: i64,
-    parts: &[u8],
-    delta: i32,
-    out: &mut Vec<u8>,
-) -> Result<(), AllocError>
-    requires { length parts.now ≤ MAX_BODY_SIZE }
-    ensures ok { OnOk result (out.new.items ≡ out.old.items ++ spelling_with timestamp_delta parts.now delta) }
-    ensures kept { Keeps out.old.items out.new.items }
+fn push_len(len: usize, out: &mut Vec<u8>)
+    requires small { len < 2 ^ 31 }
+    requires room { vec_len out.old + length (varint (pos len)) ≤ vec_capacity out.old }
+    ensures items { out.new.items ≡ out.old.items ++ varint (pos len) }
+    ensures len { vec_len out.new ≡ vec_len out.old + length (varint (pos len)) }
+    ensures capacity { vec_capacity out.new ≡ vec_capacity out.old }
 {
-    let len = 1 + len64(timestamp_delta) + len32(delta) + parts.len();
-    put_len(len, out)?;
-    put_deltas(timestamp_delta, delta, out)?;
-    put_bytes(parts, out)
+    push32(len as i32, out)
 }
 
-/// Writes the record with this timestamp delta and offset delta at the end, whose key, value and headers
-/// are spelled so. It does what `write_parts` does with them.
+/// Writes the attributes, a record's timestamp delta and its offset delta, where there is room for them.
+#[inline(always)]
+fn push_deltas(timestamp_delta: i64, delta: i32, out: &mut Vec<u8>)
+    requires { vec_len out.old + (1 + length (varlong timestamp_delta) + length (varint delta)) ≤ vec_capacity out.old }
+    ensures items { out.new.items ≡ out.old.items ++ 0 ∷ (varlong timestamp_delta ++ varint delta) }
+    ensures len { vec_len out.new ≡ vec_len out.old + (1 + length (varlong timestamp_delta) + length (varint delta)) }
+    ensures capacity { vec_capacity out.new ≡ vec_capacity out.old }
+{
+    out.push_reserved(0);
+    push64(timestamp_delta, out);
+    push32(delta, out);
+}
+
+/// Writes the record with this timestamp delta and offset delta at the end, whose key, value and headers are
+/// spelled so, if it takes at most so many bytes, and returns whether it does. It fails only where memory runs
+/// out. Where no record is written, the bytes are as they were.
 #[inline(always)]
 pub fn write_spelled(
     timestamp_delta: i64,
     parts: &[u8],
     delta: i32,
+    most: usize,
     out: &mut Vec<u8>,
-) -> Result<(), AllocError>
+) -> Result<bool, AllocError>
     requires { length parts.now ≤ MAX_BODY_SIZE }
-    ensures ok { OnOk result (out.new.items ≡ out.old.items ++ spelling_with timestamp_delta parts.now delta) }
+    ensures ok { IfOk result (λ put. WritesWithin most put out.old.items out.new.items (spelling_with timestamp_delta parts.now delta)) }
     ensures err { OnErr result (out.new.items ≡ out.old.items) }
 {
-    let start = out.len();
-    match put_spelled(timestamp_delta, parts, delta, out) {
-        Ok(()) => Ok(()),
-        Err(error) => {
-            out.truncate(start);
-            Err(error)
-        }
+    let len = 1 + len64(timestamp_delta) + len32(delta) + parts.len();
+    let size = string_len(len);
+    if size > most {
+        return Ok(false);
     }
+    out.reserve(size)?;
+    push_len(len, out);
+    push_deltas(timestamp_delta, delta, out);
+    out.extend_from_slice(parts)?;
+    Ok(true)
 }
 
 /// Writes the record with this offset delta at the end (Kafka's message format, magic 2: "Record").

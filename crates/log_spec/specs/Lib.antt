@@ -1,3 +1,4 @@
 pub mod Logs
 pub mod Catalogue
 pub mod Worlds
+pub mod RowParts

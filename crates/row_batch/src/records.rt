@@ -39,10 +39,10 @@ fn delta(base: u64, timestamp: u64) -> i64
     timestamp as i64 - base as i64
 }
 
-/// Writes a row at the end, as the record with this place in a batch with this base timestamp. An `Err`
-/// changes nothing.
+/// Writes a row at the end, one part after the other, as the record with this place in a batch with this base
+/// timestamp. An `Err` changes nothing.
 #[inline(always)]
-fn put_row(base: u64, row: &RowRef, place: usize, out: &mut Vec<u8>) -> Result<(), AllocError>
+fn put_apart(base: u64, row: &RowRef, place: usize, out: &mut Vec<u8>) -> Result<(), AllocError>
     requires base { base < TIMESTAMP_END }
     requires place { place < MAX_RECORDS }
     requires row { RowFits row.now }
@@ -50,12 +50,9 @@ fn put_row(base: u64, row: &RowRef, place: usize, out: &mut Vec<u8>) -> Result<(
     ensures err { OnErr result (out.new.items ≡ out.old.items) }
 {
     let delta = delta(base, row.timestamp);
-    if let Some(parts) = row.parts {
-        return write_spelled(delta, parts, place as i32, out);
-    }
-    let key = NullableBytes::new(row.key);
-    let value = NullableBytes::new(row.value);
-    write_parts(delta, &key, &value, &row.headers, place as i32, out)
+    let key = NullableBytes::new(row.key());
+    let value = NullableBytes::new(row.value());
+    write_parts(delta, &key, &value, &row.headers(), place as i32, out)
 }
 
 /// How many bytes a row takes as the record with this place in a batch with this base timestamp.
@@ -67,33 +64,24 @@ fn row_size(base: u64, row: &RowRef, place: usize) -> usize
     ensures { result ≡ length (record_spelling (pos place) (record_of base row.now)) }
 {
     let delta = delta(base, row.timestamp);
-    let key = NullableBytes::new(row.key);
-    let value = NullableBytes::new(row.value);
-    size_of_parts(delta, &key, &value, &row.headers, place as i32)
+    let key = NullableBytes::new(row.key());
+    let value = NullableBytes::new(row.value());
+    size_of_parts(delta, &key, &value, &row.headers(), place as i32)
 }
 
-/// The most bytes that a row's headers take, where they are apart from the rest.
-#[inline(always)]
-fn most_headers(row: &RowRef) -> usize {
-    match row.parts {
-        Some(_) => 0,
-        None => row.headers.len().saturating_mul(MAX_HEADER_SIZE),
-    }
-}
-
-/// Whether a batch of this size may have no room for a row. A row that is written beyond a batch's room makes the list
-/// grow, and is cut off again.
+/// Whether a batch of this size may have no room for a row that is written one part after the other. A row that is
+/// written beyond a batch's room makes the list grow, and is cut off again.
 #[inline(always)]
 fn may_be_full(size: usize, row: &RowRef) -> bool {
-    let more = likely_parts(row).saturating_add(most_headers(row));
+    let headers = row.headers().len().saturating_mul(MAX_HEADER_SIZE);
+    let more = likely_apart(row).saturating_add(headers);
     size.saturating_add(more) > NEARLY_FULL
 }
 
-/// Writes a row as `put_row` does, if a batch has room for it then, and returns whether it has. An `Err`
-/// changes nothing.
+/// The same as `put_if_room`, one part after the other.
 #[tactic(auto, using(crate::proofs::RoomLaws::cut_back, crate::proofs::RoomLaws::no_room))]
 #[inline(always)]
-pub fn put_if_room(
+fn put_apart_if_room(
     base: u64,
     row: &RowRef,
     place: usize,
@@ -112,13 +100,38 @@ pub fn put_if_room(
             return Ok(false);
         }
     }
-    put_row(base, row, place, out)?;
+    put_apart(base, row, place, out)?;
     let size = out.len();
     if size > MAX_BATCH {
         out.truncate(end);
         return Ok(false);
     }
     Ok(true)
+}
+
+/// Writes a row at the end, as the record with this place in a batch with this base timestamp, if a batch has room
+/// for it then, and returns whether it has. An `Err` changes nothing.
+#[inline(always)]
+pub fn put_if_room(
+    base: u64,
+    row: &RowRef,
+    place: usize,
+    out: &mut Vec<u8>,
+) -> Result<bool, AllocError>
+    requires base { base < TIMESTAMP_END }
+    requires place { place < MAX_RECORDS }
+    requires row { RowFits row.now }
+    ensures ok { IfOk result (λ put. PutsIfRoom put out.old.items out.new.items (record_spelling (pos place) (record_of base row.now))) }
+    ensures err { OnErr result (out.new.items ≡ out.old.items) }
+{
+    match row.spelled() {
+        Some(parts) => {
+            let delta = delta(base, row.timestamp);
+            let room = MAX_BATCH.saturating_sub(out.len());
+            write_spelled(delta, parts, place as i32, room, out)
+        }
+        None => put_apart_if_room(base, row, place, out),
+    }
 }
 
 /// Writes as many of `most` rows from number `first` on as one batch has room for, as its records, after
@@ -154,14 +167,11 @@ pub fn put_most<L: RowList>(
     })
 }
 
-/// About how many bytes a row takes in a batch, without its headers where they are apart from the rest.
+/// About how many bytes a row takes in a batch without its headers.
 #[inline(always)]
-fn likely_parts(row: &RowRef) -> usize {
-    if let Some(parts) = row.parts {
-        return LIKELY_RECORD.saturating_add(parts.len());
-    }
-    let key = row.key.map_or(0, |key| key.len());
-    let value = row.value.map_or(0, |value| value.len());
+fn likely_apart(row: &RowRef) -> usize {
+    let key = row.key().map_or(0, |key| key.len());
+    let value = row.value().map_or(0, |value| value.len());
     LIKELY_RECORD.saturating_add(key).saturating_add(value)
 }
 
@@ -183,11 +193,10 @@ fn likely_headers(headers: &HeadersRef) -> usize {
 
 /// About how many bytes a batch of `most` rows like this one has, and no more than a batch may have.
 pub fn likely_size(row: &RowRef, most: usize) -> usize {
-    let headers = match row.parts {
-        Some(_) => 0,
-        None => likely_headers(&row.headers),
+    let bytes = match row.spelled() {
+        Some(parts) => LIKELY_RECORD.saturating_add(parts.len()),
+        None => likely_apart(row).saturating_add(likely_headers(&row.headers())),
     };
-    let bytes = likely_parts(row).saturating_add(headers);
     HEADER
         .saturating_add(bytes.saturating_mul(most))
         .min(MAX_BATCH)

@@ -4,6 +4,7 @@ ghost use Rattle.std.specs.Prelude.{◌≡◌, ◌<◌, ◌++◌, IfOk, OnOk, op
 ghost use Rattle.script.specs.Texts.{load_line, deploy_line, append_line, close_line, fetch_line, row_line, bytes_text, found_text, hex_text, byte_text, hex_glyph};
 
 use bytes::Bytes;
+use kafka_record::HeadersRef;
 use log_spec::RowRef;
 use std::alloc::{AllocError, Global};
 
@@ -118,19 +119,34 @@ pub fn fetch_text(alloc: Global, found: &Option<Vec<u8>>) -> Result<String, Allo
     Ok(text)
 }
 
-/// Appends the line of a row of an output partition to a text. It fails only where memory runs out;
-/// the text may then end within the line.
-pub fn push_row(text: &mut String, output: usize, row: &RowRef) -> Result<(), AllocError>
-    ensures { OnOk result (string_bytes text.new ≡ string_bytes text.old ++ row_line output row.now) }
+/// Appends the line of a row with these parts.
+fn push_line(
+    text: &mut String,
+    output: usize,
+    row: &RowRef,
+    key: Option<&[u8]>,
+    value: Option<&[u8]>,
+    headers: &HeadersRef,
+) -> Result<(), AllocError>
+    ensures { OnOk result (string_bytes text.new ≡ string_bytes text.old ++ row_line output (record { input = row.now.input; number = row.now.number; offset = row.now.offset; timestamp = row.now.timestamp; key = option_map (λ k. k.now) key.entry; value = option_map (λ v. v.now) value.entry; headers = headers.now })) }
 {
     let input = row.input;
     let offset = row.offset;
     let number = row.number;
     let timestamp = row.timestamp;
-    let headers = row.headers.len();
+    let headers = headers.len();
     write!(text, "row {output} {input} {offset} {number} {timestamp} ")?;
-    push_part(text, row.key)?;
+    push_part(text, key)?;
     text.push_str(" ")?;
-    push_part(text, row.value)?;
+    push_part(text, value)?;
     write!(text, " {headers}\n")
+}
+
+/// Appends the line of a row of an output partition to a text. It fails only where memory runs out;
+/// the text may then end within the line.
+pub fn push_row(text: &mut String, output: usize, row: &RowRef) -> Result<(), AllocError>
+    ensures { OnOk result (string_bytes text.new ≡ string_bytes text.old ++ row_line output row.now) }
+{
+    let headers = row.headers();
+    push_line(text, output, row, row.key(), row.value(), &headers)
 }

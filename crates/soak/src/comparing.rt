@@ -230,8 +230,8 @@ fn is_same(row: &RowRef, other: &RowRef) -> bool {
         && row.offset == other.offset
         && row.number == other.number
         && row.timestamp == other.timestamp
-        && row.key == other.key
-        && row.value == other.value
-        && row.headers.is_empty()
-        && other.headers.is_empty()
+        && row.key() == other.key()
+        && row.value() == other.value()
+        && row.headers().is_empty()
+        && other.headers().is_empty()
 }

@@ -127,6 +127,7 @@ impl<W: Write> Outlet<W> {
 }
 
 // Adds rows, and writes each batch that has no room for the next one.
+#[inline(never)]
 fn put_rows<W: Write>(
     rows: &RowRefs,
     room: &mut Vec<u8>,

@@ -1,13 +1,13 @@
 -- Shifts by groups of seven bits.
 use Rattle.std.proofs.Common.{◌≡◌, ℕ, zero, suc, ◌+◌, ◌-◌, ◌*◌, ◌/◌, ◌%◌, ◌^◌, ◌<◌, ◌≤◌, ◌⊎◌, inl, inr, List, [], ◌∷◌}
-use Rattle.std.proofs.Common.{◌++◌, length, get_or, set, take, refl, sym, subst, ap, ◌∙◌, append_assoc, arith, ℤ}
+use Rattle.std.proofs.Common.{◌++◌, length, get_or, take, sym, subst, ap, ◌∙◌, append_assoc, arith, ℤ}
 use Rattle.std.proofs.Common.{FitsSigned}
 use Rattle.std.proofs.lemmas.Bool.{cases_lt, lt-ltb, le-ltb}
-use Rattle.std.proofs.{lemmas.List.take_more_set, lemmas.Int.to_z-of_z}
+use Rattle.std.proofs.{lemmas.List.length-append, lemmas.Int.to_z-of_z}
 use Rattle.std.specs.Int.{w32, w64, cast_signed, cast_unsigned}
 use Rattle.wire_spec.proofs.Varints.{zigzag-fits_32, groups_is, IsBase128-groups, worth, worth-128, worth-mono, Adds}
 use Rattle.wire_spec.proofs.Varints.{adds, nine_groups, EndsAt}
-use Rattle.wire_spec.specs.Varint.{groups_value, groups, zigzag}
+use Rattle.wire_spec.specs.Varint.{groups_value, groups, zigzag, varint}
 
 -- a group of seven bits in its place
 pub shifted : (k b : ℕ) → k ≤ 8 → b < 128 → (b * 2 ^ (7 * k)) % 2 ^ 64 ≡ worth k b
@@ -70,23 +70,42 @@ cast_32 z h = ap (λ (x : ℤ). cast_signed w32 (cast_unsigned w32 x)) (cast_64 
 
 -- ---- Writing
 
--- one group more was written
-pub put_more : (bytes : List ℕ) (at rest number : ℕ) → at < 9 → length bytes ≡ 10 → 128 ≤ rest →
-    take at bytes ++ groups (10 - at) rest ≡ groups 10 number →
-    take (at + 1) (set bytes at (128 + rest % 128)) ++ groups (10 - (at + 1)) (rest / 128) ≡ groups 10 number
+-- one group more was written at the end of what is there
+pub push_more : (old out : List ℕ) (at rest number : ℕ) → at < 9 → 128 ≤ rest →
+    out ++ groups (10 - at) rest ≡ old ++ groups 10 number →
+    (out ++ (128 + rest % 128) ∷ []) ++ groups (10 - (at + 1)) (rest / 128) ≡ old ++ groups 10 number
 unfolding groups
-put_more bytes at rest number lt size more is =
+push_more old out at rest number lt more is =
     let left : 10 - at ≡ suc (10 - (at + 1)) = omega arith in
-    let within : at < length bytes = omega arith in
-    let before : take at bytes ++ (128 + rest % 128) ∷ groups (10 - (at + 1)) (rest / 128) ≡ groups 10 number =
+    let before : out ++ (128 + rest % 128) ∷ groups (10 - (at + 1)) (rest / 128) ≡ old ++ groups 10 number =
     rw (left, le-ltb rest 128 more) at is in
-    rw (take_more_set bytes at (128 + rest % 128) within, append_assoc) before
+    append_assoc out ((128 + rest % 128) ∷ []) (groups (10 - (at + 1)) (rest / 128)) ∙ before
 
 -- the last group was written
-pub put_last : (bytes : List ℕ) (at rest number : ℕ) → at < 10 → length bytes ≡ 10 → rest < 128 →
-    take at bytes ++ groups (10 - at) rest ≡ groups 10 number → take (at + 1) (set bytes at rest) ≡ groups 10 number
+pub push_last : (old out : List ℕ) (at rest number : ℕ) → at < 10 → rest < 128 →
+    out ++ groups (10 - at) rest ≡ old ++ groups 10 number → out ++ rest ∷ [] ≡ old ++ groups 10 number
 unfolding groups
-put_last bytes at rest number lt size few is = grind (arith, lt-ltb, take_more_set)
+push_last old out at rest number lt few is =
+    let left : 10 - at ≡ suc (9 - at) = omega arith in
+    rw (left, lt-ltb rest 128 few) at is
+
+-- there is room for one more group
+pub some_group : (most rest : ℕ) → 1 ≤ most → 1 ≤ length (groups most rest)
+unfolding groups
+some_group zero rest some = absurd (omega (arith, some))
+some_group (suc most) rest some = grind (arith, cases_lt, lt-ltb, le-ltb)
+
+pub has_room : (old out : List ℕ) (at rest number capacity : ℕ) → at < 10 →
+    out ++ groups (10 - at) rest ≡ old ++ groups 10 number → length old + length (groups 10 number) ≤ capacity →
+    length out < capacity
+has_room old out at rest number capacity lt is room =
+    omega (
+      arith,
+      ap length is,
+      length-append out (groups (10 - at) rest),
+      length-append old (groups 10 number),
+      some_group (10 - at) rest (omega (arith, lt)),
+    )
 
 pub rest_below : (at rest : ℕ) → worth at rest < 2 ^ 64 → worth (at + 1) (rest / 128) < 2 ^ 64
 rest_below at rest lt =
@@ -105,6 +124,13 @@ groups_5 z h = groups_is 5 (groups 10 (zigzag z)) (zigzag z) (omega (arith, zigz
 pub cast_from_32 : (z : ℤ) → FitsSigned w32 z →
     cast_signed w64 (cast_unsigned w64 (cast_signed w32 (cast_unsigned w32 z))) ≡ z
 cast_from_32 z h = ap (λ (x : ℤ). cast_signed w64 (cast_unsigned w64 x)) (to_z-of_z w32 z h) ∙ cast_64 z h
+
+-- its groups are its varint
+pub varint_is : (z : ℤ) (n : ℕ) → FitsSigned w32 z →
+    n ≡ zigzag (cast_signed w64 (cast_unsigned w64 (cast_signed w32 (cast_unsigned w32 z)))) →
+    groups 10 n ≡ varint z
+unfolding varint
+varint_is z n h is = ap (groups 10) (is ∙ ap zigzag (cast_from_32 z h)) ∙ groups_5 z h
 
 -- ---- Lengths
 

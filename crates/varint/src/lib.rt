@@ -14,4 +14,4 @@ mod writing;
 
 pub use reading::{one_spelling, read32, read64};
 pub use wire_spec::VarintFault;
-pub use writing::{len32, len64, write32, write64};
+pub use writing::{len32, len64, push32, push64, write32, write64};

@@ -38,6 +38,15 @@ fn read_groups(bytes: &[u8], most: usize, top: u8) -> Result<(u64, usize), Varin
     Ok((number + ((byte as u64) << (7 * (most - 1) as u32)), most))
 }
 
+/// The same, apart from what reads fewer bytes, which so keeps its answer in registers.
+#[inline(always)]
+fn more_groups(bytes: &[u8], most: usize, top: u8) -> Result<(u64, usize), VarintFault>
+    requires { ((most ≡ 5) × (top ≡ 15)) ⊎ ((most ≡ 10) × (top ≡ 1)) }
+    ensures { result ≡ read_base128 most top bytes.now }
+{
+    read_groups(bytes, most, top)
+}
+
 /// The same without a loop where it takes one byte or two: most numbers of a record take no more.
 #[inline(always)]
 fn groups_of(bytes: &[u8], most: usize, top: u8) -> Result<(u64, usize), VarintFault>
@@ -45,7 +54,7 @@ fn groups_of(bytes: &[u8], most: usize, top: u8) -> Result<(u64, usize), VarintF
     ensures { result ≡ read_base128 most top bytes.now }
 {
     if bytes.len() < 2 {
-        return read_groups(bytes, most, top);
+        return more_groups(bytes, most, top);
     }
     let first = bytes[0];
     if first < 128 {
@@ -53,7 +62,7 @@ fn groups_of(bytes: &[u8], most: usize, top: u8) -> Result<(u64, usize), VarintF
     }
     let second = bytes[1];
     if second == 0 || second >= 128 {
-        return read_groups(bytes, most, top);
+        return more_groups(bytes, most, top);
     }
     Ok(((first - 128) as u64 + 128 * second as u64, 2))
 }

@@ -1,56 +1,56 @@
-ghost use Rattle.std.specs.Prelude.{◌≡◌, ◌≤◌, ◌<◌, length, take, ◌++◌, OnOk, OnErr};
+ghost use Rattle.std.specs.Prelude.{◌≡◌, ◌≤◌, ◌+◌, length, ◌++◌, vec_len, vec_capacity, OnOk, OnErr};
 ghost use Rattle.wire_spec.specs.Varint.{zigzag, groups, varint, varlong};
 
 use std::alloc::AllocError;
 
-/// Writes a number's groups of seven bits at the front, and returns how many bytes they take.
-#[inline(always)]
-fn put_groups(number: u64, bytes: &mut [u8; 10]) -> usize
-    ensures within { result ≤ 10 }
-    ensures groups { take result bytes.new ≡ groups 10 number }
+/// Writes a number's groups of seven bits at the end, where there is room for them.
+#[inline(never)]
+fn push_more(number: u64, out: &mut Vec<u8>)
+    requires { vec_len out.old + length (groups 10 number) ≤ vec_capacity out.old }
+    ensures items { out.new.items ≡ out.old.items ++ groups 10 number }
+    ensures len { vec_len out.new ≡ vec_len out.old + length (groups 10 number) }
+    ensures capacity { vec_capacity out.new ≡ vec_capacity out.old }
 {
     let mut rest = number;
-    for at in 0..9 {
+    for _ in 0..9usize {
         if rest < 128 {
-            bytes[at] = rest as u8;
-            return at + 1;
+            out.push_reserved(rest as u8);
+            return;
         }
-        bytes[at] = (128 + rest % 128) as u8;
+        out.push_reserved((128 + rest % 128) as u8);
         rest /= 128;
     }
-    bytes[9] = rest as u8;
-    10
+    out.push_reserved(rest as u8);
 }
 
-/// The two groups of seven bits of a number that has as many. It takes no loop: most lengths in a record
-/// have one or two.
+/// The same without a loop where there are one or two: most numbers of a record have no more.
 #[tactic(auto, unfolding(wire_spec::specs::Varint::groups))]
 #[inline(always)]
-fn two_groups(number: u64) -> [u8; 2]
-    requires more { 128 ≤ number }
-    requires few { number < 16384 }
-    ensures { result ≡ groups 10 number }
+fn push_groups(number: u64, out: &mut Vec<u8>)
+    requires { vec_len out.old + length (groups 10 number) ≤ vec_capacity out.old }
+    ensures items { out.new.items ≡ out.old.items ++ groups 10 number }
+    ensures len { vec_len out.new ≡ vec_len out.old + length (groups 10 number) }
+    ensures capacity { vec_capacity out.new ≡ vec_capacity out.old }
 {
-    [(128 + number % 128) as u8, (number / 128) as u8]
+    if number < 128 {
+        out.push_reserved(number as u8);
+    } else if number < 16_384 {
+        out.push_reserved((128 + number % 128) as u8);
+        out.push_reserved((number / 128) as u8);
+    } else {
+        push_more(number, out);
+    }
 }
 
 /// Writes a number's groups of seven bits at the end.
-#[tactic(auto, unfolding(wire_spec::specs::Varint::groups))]
 #[inline(always)]
 fn write_groups(number: u64, out: &mut Vec<u8>) -> Result<(), AllocError>
     ensures ok { OnOk result (out.new.items ≡ out.old.items ++ groups 10 number) }
     ensures err { OnErr result (out.new.items ≡ out.old.items) }
 {
-    if number < 128 {
-        out.push(number as u8)?;
-        return Ok(());
-    }
-    if number < 16_384 {
-        return out.extend_from_slice(&two_groups(number));
-    }
-    let mut bytes = [0u8; 10];
-    let len = put_groups(number, &mut bytes);
-    out.extend_from_slice(&bytes[..len])
+    out.reserve(groups_len(number))?;
+    push_groups(number, out);
+    Ok(())
 }
 
 /// How many groups of seven bits a number has.
@@ -100,6 +100,29 @@ pub fn write64(value: i64, out: &mut Vec<u8>) -> Result<(), AllocError>
     ensures err { OnErr result (out.new.items ≡ out.old.items) }
 {
     write_groups(zigzag_of(value), out)
+}
+
+/// Writes the varint of a number at the end, where there is room for it.
+#[inline(always)]
+pub fn push32(value: i32, out: &mut Vec<u8>)
+    requires { vec_len out.old + length (varint value) ≤ vec_capacity out.old }
+    ensures items { out.new.items ≡ out.old.items ++ varint value }
+    ensures len { vec_len out.new ≡ vec_len out.old + length (varint value) }
+    ensures capacity { vec_capacity out.new ≡ vec_capacity out.old }
+{
+    push_groups(zigzag_of(value as i64), out)
+}
+
+/// Writes the varlong of a number at the end, where there is room for it.
+#[tactic(auto, unfolding(wire_spec::specs::Varint::varlong))]
+#[inline(always)]
+pub fn push64(value: i64, out: &mut Vec<u8>)
+    requires { vec_len out.old + length (varlong value) ≤ vec_capacity out.old }
+    ensures items { out.new.items ≡ out.old.items ++ varlong value }
+    ensures len { vec_len out.new ≡ vec_len out.old + length (varlong value) }
+    ensures capacity { vec_capacity out.new ≡ vec_capacity out.old }
+{
+    push_groups(zigzag_of(value), out)
 }
 
 /// How many bytes the varint of a number has, 1 to 5.

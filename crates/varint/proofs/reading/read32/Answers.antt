@@ -1,5 +1,4 @@
-use Rattle.std.proofs.Common.{◌∙◌, ap, arith}
-use Rattle.wire_spec.specs.Varint.{read_varint}
+use Rattle.std.proofs.Common.{arith}
 use Rattle.wire_spec.proofs.Varints.{varint_found, read_varint-form}
 use Rattle.varint.proofs.reading.read32.Goals as goal
 

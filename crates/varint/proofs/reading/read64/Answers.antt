@@ -1,5 +1,4 @@
-use Rattle.std.proofs.Common.{◌∙◌, ap, arith}
-use Rattle.wire_spec.specs.Varint.{read_varlong}
+use Rattle.std.proofs.Common.{arith}
 use Rattle.wire_spec.proofs.Varints.{varlong_found, read_varlong-form}
 use Rattle.varint.proofs.reading.read64.Goals as goal
 

@@ -1,6 +1,6 @@
-use Rattle.std.proofs.Common.{◌^◌, Ok, sym, ap, ◌∙◌, arith, ℤ, FitsSigned}
+use Rattle.std.proofs.Common.{◌^◌, sym, arith, FitsSigned}
 use Rattle.std.specs.Int.{w32}
-use Rattle.wire_spec.specs.Varint.{read_signed, read_varint}
+use Rattle.wire_spec.specs.Varint.{read_varint}
 use Rattle.wire_spec.proofs.Varints.{wide_32, read_taken, unzigzag-fits_32}
 use Rattle.varint.proofs.Steps.{cast_64, cast_32}
 use Rattle.varint.proofs.reading.varint_of.Goals as goal

@@ -1,5 +1,5 @@
-use Rattle.std.proofs.Common.{◌≡◌, ◌∙◌, ap, arith, length}
-use Rattle.wire_spec.specs.Varint.{zigzag, groups, varint}
+use Rattle.std.proofs.Common.{◌≡◌, arith, length}
+use Rattle.wire_spec.specs.Varint.{varint}
 use Rattle.wire_spec.proofs.Varints.{length-varint}
 use Rattle.varint.proofs.Steps.{cast_from_32, groups_5}
 use Rattle.varint.proofs.writing.len32.Goals as goal

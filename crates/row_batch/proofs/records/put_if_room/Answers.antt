@@ -1,7 +1,7 @@
 use Rattle.std.proofs.Common.{◌≡◌, rules}
 use Rattle.wire_spec.specs.RecordSpelling.{record_parts}
 use Rattle.row_batch.proofs.RowLaws.{few_parts}
-use Rattle.row_batch.proofs.records.put_row.Goals as goal
+use Rattle.row_batch.proofs.records.put_if_room.Goals as goal
 
 pub write_spelled-requires : goal.write_spelled-requires
 write_spelled-requires c =
