@@ -10,9 +10,8 @@
 #include <stdlib.h>
 #include <string.h>
 
-/* What each call may take, and one that compiles rules, whose conditions are read and compiled level by level. Most is what
- * a thread has here. */
-enum { ALLOWED = 20000, ALLOWED_COMPILE = 40000, MOST = 1 << 20, PAINT = 0x5a, LONGEST = 8 << 20 };
+/* What each call may take. Most is what a thread has here. */
+enum { ALLOWED = 20000, MOST = 1 << 20, PAINT = 0x5a, LONGEST = 8 << 20 };
 
 static uint8_t *stack;
 static uint8_t *batches_at;
@@ -244,10 +243,10 @@ int main(int argc, char **argv)
 	}
 	for (size_t k = 0; k < ROWS; k++) {
 		printf("%6zu %s\n", rows[k].deepest, rows[k].name);
-		is_deep |= rows[k].deepest > (size_t)(rows[k].call == call_compile ? ALLOWED_COMPILE : ALLOWED);
+		is_deep |= rows[k].deepest > ALLOWED;
 	}
-	printf("%d images, %d of them accepted: %s than %d bytes of stack, or %d to compile rules\n", argc - 3, accepted,
-	       is_deep ? "a call took more" : "no call took more", ALLOWED, ALLOWED_COMPILE);
+	printf("%d images, %d of them accepted: %s than %d bytes of stack\n", argc - 3, accepted,
+	       is_deep ? "a call took more" : "no call took more", ALLOWED);
 	free(batches_at);
 	free(rules_at);
 	free(stack);

@@ -1,13 +1,14 @@
 #!/usr/bin/env python3
-"""Measures the stack that each function of the C library takes (library_stack.c): at most 20,000 bytes, and klog_compile at
-most 40,000, or the status is 1.
+"""Measures the stack that each function of the C library takes (library_stack.c): at most 20,000 bytes, or the status is 1.
 
     tools/dev/library_stack.py FOLDER        FOLDER is what tools/build_library.sh made; CC is the C compiler, cc if not set
 
 The calls get the greatest images of several forms, accepted and refused, random ones, one that rejects 2,000 records
 with a code each, and batches with a record of the greatest headers, of which a program emits sixteen rows. klog_compile gets
-the deepest conditions, as many rules as a text may have, faulty texts, and rules that are too long for a program.
+conditions that nest as deep as they may in each way, as many rules as a text may have, faulty texts, and rules that are too
+long for a program.
 """
+import functools
 import os
 import random
 import struct
@@ -77,18 +78,39 @@ def batches():
     return spell(small, 1000, -1, 0) + spell(large, 1000, -1, 0)
 
 
+def nested(count, form):
+    """A condition within so many others of a form."""
+    return functools.reduce(lambda inner, _: form % inner, range(count), b"key is null")
+
+
+def deep_conditions():
+    """Conditions that nest in each way, one level less than they may, as deep as they may, and one level too deep."""
+    has = b'header "' + b"h" * 255 + b'" has "' + b"t" * 255 + b'"'
+    for step in (-1, 0, 1):
+        for last in (b"key is null", has, b"decimal(key, 9, 9) >= 7", b"key is nul"):
+            yield b"not " * (97 + step) + last
+            for word in (b" and ", b" or "):
+                yield word.join([b"key is null"] * (97 + step) + [last])
+                yield word.join([b"key is null"] * (48 + step) + [b"not " * 49 + last])
+        yield nested(32 + step, b"(%s)")
+        for more in (b" and key is null", b" or key is null", b" and key is null or key is null"):
+            yield nested(32 + step, b"(%s" + more + b")")
+            yield nested(24 + step, b"not (%s" + more + b")")
+        for more in (b"key is null and ", b"key is null or "):
+            yield nested(24 + step, b"(" + more + b"%s)")
+            yield nested(19 + step, b"not (" + more + b"%s)")
+        yield nested(19 + step, b"(key is null or key is null and %s)")
+    yield b"(" * 40
+
+
 def rules():
     test = b'header "' + b"h" * 255 + b'" has "' + b"t" * 255 + b'"'
-    yield b"drop when " + b"(" * 32 + b"key is null" + b")" * 32
-    yield b"drop when " + b"not " * 97 + b"key is null"
+    for condition in deep_conditions():
+        yield b"drop when " + condition
     yield b"drop when " + b" and ".join([test] * 33)
-    yield b"drop when " + b" or ".join([b'u64be(value, 1) >= 7'] * 33)
-    yield b"drop when " + b" and ".join([b"key is null"] * 98)
-    yield b"drop when " + b" or ".join([b"key is null"] * 98)
-    yield b"drop when " + b" or ".join([b"key is null"] * 99)
+    yield b"drop when " + b" or ".join([b"u64be(value, 1) >= 7"] * 33)
     yield b"output 4 with value[4..12] = \"" + b"*" * 255 + b'" when ' + test + b"\n" + b"output hash(key) % 64\n" * 1023
     yield b"output 0\n" * 1025
-    yield b"drop when " + b"(" * 40
     yield (b"drop when " + test + b"\n") * 1024
 
 
