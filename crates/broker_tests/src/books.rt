@@ -21,7 +21,7 @@ pub(crate) fn is_seen(row: &BookRow, want: &Seen) -> bool {
         Some(value) => is_row(row, offset, number, value),
         None => {
             let row = row.by_ref();
-            row.offset == offset && row.number as usize == number && row.value.is_none()
+            row.offset == offset && row.number as usize == number && row.value().is_none()
         }
     }
 }
